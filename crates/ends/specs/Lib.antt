@@ -1,0 +1,6 @@
+pub mod Times
+pub mod Timed
+pub mod Sender
+pub mod Receiver
+pub mod Shifts
+pub mod BareSender

@@ -1,0 +1,15 @@
+// What any sender and any receiver mean, and the two that run on a table of times.
+pub mod bare_sender;
+pub mod kind;
+pub mod receiver;
+pub mod sender;
+mod sending;
+pub mod shift;
+pub mod timing;
+
+pub use bare_sender::BareSender;
+pub use kind::Kind;
+pub use receiver::Receiver;
+pub use sender::Sender;
+pub use sending::BareSending;
+pub use timing::Timing;
