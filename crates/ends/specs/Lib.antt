@@ -4,3 +4,5 @@ pub mod Sender
 pub mod Receiver
 pub mod Shifts
 pub mod BareSender
+pub mod Samples
+pub mod BareReceiver

@@ -64,6 +64,11 @@ abbrev pub falling-on : ℕ → List ℕ → ℕ
 falling-on n [] = 0
 falling-on n (s ∷ ss) = cond (eqb s n) (1 + falling-on n ss) (falling-on n ss)
 
+-- how many fall before clock n
+abbrev pub falling-before : ℕ → List ℕ → ℕ
+falling-before n [] = 0
+falling-before n (s ∷ ss) = cond (ltb s n) (1 + falling-before n ss) (falling-before n ss)
+
 abbrev pub majority : Level → Level → Level → Level
 majority Mark Mark c = Mark
 majority Mark Space c = c
@@ -130,24 +135,24 @@ going-on (Space ∷ bs) n ls = framing n ls
 going-on (Mark ∷ bs) n ls = idle
 
 -- the samples after clock n of a frame, with level l
-abbrev pub taken-now : ReceiverState → ℕ → List Level → Level → List Level
-taken-now r n ls l = ls ++ replicate (falling-on n (r .samples)) l
+abbrev pub taken-now : List ℕ → ℕ → List Level → Level → List Level
+taken-now samples n ls l = ls ++ replicate (falling-on n samples) l
 
 -- a frame with these samples after clock n of it: it ends where its first stop bit is decided
-abbrev pub in-frame : ReceiverState → ℕ → List Level → Heard
-in-frame r n ls =
+abbrev pub in-frame : Format → ℕ → List Level → Heard
+in-frame f n ls =
     let bs : List Level = decided ls in
-    cond (leb (1 + first-stop (r .format)) (length bs))
-    (record { doing = after-frame (entry-of (r .format) bs); arrived = entry-of (r .format) bs ∷ [] })
+    cond (leb (1 + first-stop f) (length bs))
+    (record { doing = after-frame (entry-of f bs); arrived = entry-of f bs ∷ [] })
     (nothing (going-on bs n ls))
 
 abbrev pub heard : ReceiverState → Level → Doing → Level → Heard
-heard r Mark idle Space = in-frame r 0 (taken-now r 0 [] Space)
+heard r Mark idle Space = in-frame (r .format) 0 (taken-now (r .samples) 0 [] Space)
 heard r Mark idle Mark = nothing idle
 heard r Space idle l = nothing idle
-heard r p (framing n ls) l = in-frame r (n + 1) (taken-now r (n + 1) ls l)
+heard r p (framing n ls) l = in-frame (r .format) (n + 1) (taken-now (r .samples) (n + 1) ls l)
 heard r p (counting n) Mark = nothing idle
-heard r Mark (counting n) Space = in-frame r 0 (taken-now r 0 [] Space)
+heard r Mark (counting n) Space = in-frame (r .format) 0 (taken-now (r .samples) 0 [] Space)
 heard r Space (counting n) Space =
     cond (leb (r .break-length) (n + 1)) (record { doing = idle; arrived = (0 , 8) ∷ [] }) (nothing (counting (n + 1)))
 

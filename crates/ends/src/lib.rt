@@ -1,12 +1,17 @@
 // What any sender and any receiver mean, and the two that run on a table of times.
+pub mod bare_receiver;
 pub mod bare_sender;
+pub mod doing;
 pub mod kind;
 pub mod receiver;
+pub mod receiving;
+pub mod samples;
 pub mod sender;
-mod sending;
+pub mod sending;
 pub mod shift;
 pub mod timing;
 
+pub use bare_receiver::BareReceiver;
 pub use bare_sender::BareSender;
 pub use kind::Kind;
 pub use receiver::Receiver;

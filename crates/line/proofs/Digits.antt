@@ -6,7 +6,8 @@ use native.Mathlib.Nat.{not-suc-le-zero, le-of-suc-le-suc, pow-suc, mul-assoc, m
 use native.Mathlib.Omega.{arith}
 use lib.Arith.{mod-mul}
 use lib.Count.{ones, ones-step}
-use lib.ListN.{length, replicate}
+use lib.ListN.{length, take, drop}
+use Rattle.std.proofs.shelf.Bits.{shr-shr}
 use lib.Pow.{pow-pos}
 use Rattle.line.specs.declared.level.Level.{Level}
 use Rattle.line.specs.declared.level.Level.the-variants.{Space, Mark}
@@ -79,3 +80,29 @@ low-number (Space ∷ bs) = let n : ℕ = number bs in
     ap₂ {C = List Level} (λ d m. level-of d ∷ low-bits (length bs) m) (even n) (half n) ∙ ap {B = List Level} (λ l. Space ∷ l) (low-number bs)
 low-number (Mark ∷ bs) = let n : ℕ = number bs in
     ap₂ {C = List Level} (λ d m. level-of d ∷ low-bits (length bs) m) (odd n) (half-odd n) ∙ ap {B = List Level} (λ l. Mark ∷ l) (low-number bs)
+
+pub drop-low : (k n c : ℕ) → drop k (low-bits (k + n) c) ≡ low-bits n (c / 2 ^ k)
+drop-low zero n c = ap₂ {C = List Level} (λ m d. low-bits m d) (plain n) (whole c)
+  where
+  plain : (n : ℕ) → 0 + n ≡ n
+  plain n = omega arith
+  whole : (c : ℕ) → c ≡ c / 1
+  whole c = omega arith
+drop-low (suc k) n c =
+    let more : suc k + n ≡ suc (k + n) = omega arith in
+    let halves : c / 2 / 2 ^ k ≡ c / 2 ^ suc k = shr-shr c 1 k ∙ ap (λ (m : ℕ). c / 2 ^ m) (one k) in
+    ap {B = List Level} (λ m. drop (suc k) (low-bits m c)) more ∙ drop-low k n (c / 2) ∙ ap {B = List Level} (λ d. low-bits n d) halves
+  where
+  one : (k : ℕ) → 1 + k ≡ suc k
+  one k = omega arith
+
+pub take-low : (k n c : ℕ) → take k (low-bits (k + n) c) ≡ low-bits k c
+take-low zero n c = refl
+take-low (suc k) n c =
+    let more : suc k + n ≡ suc (k + n) = omega arith in
+    ap {B = List Level} (λ m. take (suc k) (low-bits m c)) more ∙ ap {B = List Level} (λ l. level-of (c % 2) ∷ l) (take-low k n (c / 2))
+
+-- digits above the lowest n do not count
+pub low-mod : (n c : ℕ) → low-bits n (c % 2 ^ n) ≡ low-bits n c
+low-mod n c =
+    sym (ap₂ {C = List Level} (λ m d. low-bits m d) (low-length n c) (number-low n c)) ∙ low-number (low-bits n c)

@@ -123,8 +123,8 @@ impl Format {
         }
     }
 
-    // What the first stop bit counts, as a digit above a character: past a parity bit, twice as much.
-    fn stop_place(self) -> u16
+    // How many values the parity bit has: one where there is none.
+    pub fn parity_values(self) -> u16
         ensures value { λ r. ⌜ r ≡ 2 ^ parity-count (self .parity) ⌝ }
         ensures bound { λ r. ⌜ r ≤ 2 ⌝ }
     {
@@ -150,7 +150,7 @@ impl Format {
         ensures bound { λ r. ⌜ r < 2 ^ 13 ⌝ }
     {
         let characters = self.characters();
-        let above = self.parity_bit(character) + self.stop_place() * self.stop_digits();
+        let above = self.parity_bit(character) + self.parity_values() * self.stop_digits();
         2 * (character % characters + characters * above)
     }
 }

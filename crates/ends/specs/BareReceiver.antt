@@ -1,0 +1,40 @@
+-- What a bare receiver means.
+use Prim.Native.Nat.{ℕ}
+use mathlib.Core.List.{List, [], _∷_}
+use lib.ListN.{take}
+use Rattle.std.specs.Vec.{listOf}
+use Rattle.line.specs.declared.level.Level.the-variants.{Mark}
+use Rattle.ends.specs.declared.timing.Timing.{Timing}
+use Rattle.ends.specs.declared.doing.Frame.{Frame}
+use Rattle.ends.specs.declared.doing.Doing.{Doing}
+use Rattle.ends.specs.declared.doing.Doing.the-variants.{Idle, Framing, Counting}
+use Rattle.ends.specs.declared.doing.Progress.{Progress}
+use Rattle.ends.specs.declared.doing.Progress.the-variants.{GoesOn, FalseStart, Over}
+use Rattle.ends.specs.declared.bare_receiver.BareReceiver.{BareReceiver}
+use Rattle.ends.specs.Receiver.{ReceiverState, Doing as Meant, idle, framing, counting, Heard, nothing, after-frame}
+use Rattle.ends.specs.Samples.{taken}
+
+abbrev pub doing-of : Doing → Meant
+doing-of Idle = idle
+doing-of (Framing f) = framing (f .clock) (taken (f .samples))
+doing-of (Counting n) = counting n
+
+abbrev pub sample-clocks : Timing → List ℕ
+sample-clocks t = take (t .«sample_count») (t .samples)
+
+abbrev pub meant : BareReceiver → ReceiverState
+meant r = record {
+  format = r .timing .format; samples = sample-clocks (r .timing); break-length = r .timing .«break_length»; capacity = 1;
+  unread = listOf (r .unread); previous = r .previous; doing = doing-of (r .doing) }
+
+-- a bare receiver with these times that has heard nothing
+abbrev pub at-rest : Timing → ReceiverState
+at-rest t = record {
+  format = t .format; samples = sample-clocks t; break-length = t .«break_length»; capacity = 1;
+  unread = []; previous = Mark; doing = idle }
+
+-- what the progress of a frame comes to
+abbrev pub heard-of : Progress → Frame → Heard
+heard-of GoesOn f = nothing (framing (f .clock) (taken (f .samples)))
+heard-of FalseStart f = nothing idle
+heard-of (Over c flags) f = record { doing = after-frame (c , flags); arrived = (c , flags) ∷ [] }
