@@ -8,7 +8,7 @@ use native.Mathlib.Nat.{not-suc-le-zero, le-of-suc-le-suc, add-zero}
 use native.Mathlib.Omega.{arith}
 use lib.Dec.{ltb, eqb}
 use lib.ListN.{length, take, drop, getD, replicate, length-append, length-replicate, getD-replicate, length-drop}
-use Rattle.std.proofs.shelf.Lists.{getD-append-left, getD-append-right, getD-take, getD-drop, length-take-le, drop-more, drop-all, append-assoc, append-nil}
+use Rattle.std.proofs.shelf.Lists.{getD-append-left, getD-append-right, getD-past, getD-take, getD-drop, length-take-le, drop-more, drop-all, append-assoc, append-nil}
 use Rattle.std.proofs.shelf.Tests.{cases-lt, lt-ltb, le-ltb, eq-eqb}
 use Rattle.std.proofs.shelf.Ways.{tells}
 use Rattle.line.specs.declared.level.Level.{Level}
@@ -273,3 +273,22 @@ not-past t s n e = omega (arith, e, before-most n (sample-clocks t), clocks-leng
 pub clock-early : (t : Timing) (s : Samples) (n : ℕ) → s .count ≡ falling-before n (sample-clocks t) → s .count < t .«sample_count» → n < 1048576
 clock-early t s n e h =
     omega (arith, over-clock n (sample-clocks t) (clocks-rising t) (s .count) (omega (arith, h, clocks-length t)) (omega (arith, e)), clock-at t (s .count) h, t .early (s .count))
+
+-- at most the start bit's samples fall on a frame's first clock
+pub few-at-first : (t : Timing) → falling-before 1 (sample-clocks t) ≤ 3
+few-at-first t = ⊎-elim
+    (λ (more : 3 < falling-before 1 (sample-clocks t)).
+      let within : 3 < t .«sample_count» = omega (arith, t .counted) in
+      absurd (omega (arith, under-clock 1 (sample-clocks t) (clocks-rising t) 3 more, clock-at t 3 within, t .apart 0 (omega arith))))
+    (λ (few : falling-before 1 (sample-clocks t) ≤ 3). few)
+    (cases-lt 3 (falling-before 1 (sample-clocks t)))
+
+pub clocks-early : (t : Timing) (i : ℕ) → getD (sample-clocks t) i 0 < 1048576
+clocks-early t i = ⊎-elim
+    (λ (l : i < t .«sample_count»). omega (arith, clock-at t i l, t .early i))
+    (λ (g : t .«sample_count» ≤ i). omega (arith, getD-past (sample-clocks t) i 0 (omega (arith, g, clocks-length t))))
+    (cases-lt i (t .«sample_count»))
+
+pub clocks-apart : (t : Timing) (k : ℕ) → k < first-stop (t .format) → getD (sample-clocks t) (3 * k + 2) 0 < getD (sample-clocks t) (3 * k + 3) 0
+clocks-apart t k h =
+    omega (arith, clock-at t (3 * k + 2) (omega (arith, h, t .counted)), clock-at t (3 * k + 3) (omega (arith, h, t .counted)), t .apart k (omega (arith, h, width-most (t .format), parity-most (t .format .parity))))

@@ -3,9 +3,9 @@ use Prim.Native.Nat.{ℕ}
 use mathlib.Core.List.{List, [], _∷_}
 use lib.ListN.{take}
 use Rattle.std.specs.Vec.{listOf}
+use Rattle.line.specs.declared.level.Level.{Level}
 use Rattle.line.specs.declared.level.Level.the-variants.{Mark}
 use Rattle.ends.specs.declared.timing.Timing.{Timing}
-use Rattle.ends.specs.declared.doing.Frame.{Frame}
 use Rattle.ends.specs.declared.doing.Doing.{Doing}
 use Rattle.ends.specs.declared.doing.Doing.the-variants.{Idle, Framing, Counting}
 use Rattle.ends.specs.declared.doing.Progress.{Progress}
@@ -14,10 +14,10 @@ use Rattle.ends.specs.declared.bare_receiver.BareReceiver.{BareReceiver}
 use Rattle.ends.specs.Receiver.{ReceiverState, Doing as Meant, idle, framing, counting, Heard, nothing, after-frame}
 use Rattle.ends.specs.Samples.{taken}
 
-abbrev pub doing-of : Doing → Meant
-doing-of Idle = idle
-doing-of (Framing f) = framing (f .clock) (taken (f .samples))
-doing-of (Counting n) = counting n
+abbrev pub doing-of : Doing → List Level → Meant
+doing-of Idle ls = idle
+doing-of (Framing clock) ls = framing clock ls
+doing-of (Counting spaces) ls = counting spaces
 
 abbrev pub sample-clocks : Timing → List ℕ
 sample-clocks t = take (t .«sample_count») (t .samples)
@@ -25,7 +25,7 @@ sample-clocks t = take (t .«sample_count») (t .samples)
 abbrev pub meant : BareReceiver → ReceiverState
 meant r = record {
   format = r .timing .format; samples = sample-clocks (r .timing); break-length = r .timing .«break_length»; capacity = 1;
-  unread = listOf (r .unread); previous = r .previous; doing = doing-of (r .doing) }
+  unread = listOf (r .unread); previous = r .previous; doing = doing-of (r .doing) (taken (r .samples)) }
 
 -- a bare receiver with these times that has heard nothing
 abbrev pub at-rest : Timing → ReceiverState
@@ -33,8 +33,8 @@ at-rest t = record {
   format = t .format; samples = sample-clocks t; break-length = t .«break_length»; capacity = 1;
   unread = []; previous = Mark; doing = idle }
 
--- what the progress of a frame comes to
-abbrev pub heard-of : Progress → Frame → Heard
-heard-of GoesOn f = nothing (framing (f .clock) (taken (f .samples)))
-heard-of FalseStart f = nothing idle
-heard-of (Over c flags) f = record { doing = after-frame (c , flags); arrived = (c , flags) ∷ [] }
+-- what the progress of a frame comes to, at this clock of it and with these samples
+abbrev pub heard-of : Progress → ℕ → List Level → Heard
+heard-of GoesOn n ls = nothing (framing n ls)
+heard-of FalseStart n ls = nothing idle
+heard-of (Over c flags) n ls = record { doing = after-frame (c , flags); arrived = (c , flags) ∷ [] }

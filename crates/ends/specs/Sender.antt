@@ -75,3 +75,8 @@ sent s = first-of (ready s (s .left) (s .waiting) .left)
 
 abbrev pub after-send : SenderState → SenderState
 after-send s = let r : SenderState = ready s (s .left) (s .waiting) in holding r (rest-of (r .left)) (r .waiting)
+
+-- the frames of some characters, one after the other
+abbrev pub frames : SenderState → List ℕ → List Level
+frames s [] = []
+frames s (c ∷ cs) = frame-levels s c ++ frames s cs

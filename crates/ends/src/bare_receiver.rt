@@ -4,6 +4,7 @@ ghost use Prim.Native.Nat.{_<_};
 ghost use lib.ListN.{take};
 ghost use Rattle.ends.specs.Samples.{taken-by, due-by, spaces-by};
 use super::doing::Doing;
+use super::samples::Samples;
 use super::timing::Timing;
 use line::Level;
 
@@ -13,7 +14,9 @@ pub struct BareReceiver {
     pub(crate) unread: Option<(u16, u8)>,
     pub(crate) previous: Level,
     pub(crate) doing: Doing,
-    ghost in_step: { taken-by doing ≡ due-by (take (timing .«sample_count») (timing .samples)) doing },
-    ghost unended: { taken-by doing < timing .«sample_count» },
+    // those of the frame, while in one
+    pub(crate) samples: Samples,
+    ghost in_step: { taken-by doing (samples .count) ≡ due-by (take (timing .«sample_count») (timing .samples)) doing },
+    ghost unended: { taken-by doing (samples .count) < timing .«sample_count» },
     ghost unbroken: { spaces-by doing < timing .«break_length» },
 }

@@ -1,26 +1,19 @@
 // What a bare receiver is doing.
-use super::samples::Samples;
-
-// A frame that has begun, at this clock of it.
-#[derive(Clone, Copy)]
-pub struct Frame {
-    pub(crate) clock: u32,
-    pub(crate) samples: Samples,
-}
-
 #[derive(Clone, Copy)]
 pub enum Doing {
     Idle,
-    Framing(Frame),
-    // counting the spaces after a framing fault
-    Counting(u32),
+    // in a frame, at this clock of it
+    Framing { clock: u32 },
+    // after a framing fault, with this many spaces since
+    Counting { spaces: u32 },
 }
 
 // What a clock of a frame comes to.
 #[derive(Clone, Copy)]
 pub enum Progress {
     GoesOn,
+    // the start bit was decided as mark
     FalseStart,
-    // its character and flags
+    // the first stop bit was decided: the frame's character and flags
     Over(u16, u8),
 }

@@ -7,12 +7,11 @@ ghost use Rattle.std.specs.Vec.{listOf};
 ghost use Rattle.line.specs.declared.level.Level.the-variants.{Space, Mark};
 ghost use Rattle.line.specs.Levels.{number, low-bits};
 ghost use Rattle.line.specs.Frames.{first-stop};
-ghost use Rattle.ends.specs.Receiver.{falling-on, falling-before, majority, decided, entry-of, joined, in-frame, taken-now};
+ghost use Rattle.ends.specs.Receiver.{falling-on, falling-before, majority, decided, entry-of, joined, in-frame, nothing, framing, taken-now};
 ghost use Rattle.ends.specs.Samples.{taken};
 ghost use Rattle.ends.specs.BareReceiver.{meant, at-rest, sample-clocks, heard-of};
 use super::bare_receiver::BareReceiver;
 use super::doing::Doing;
-use super::doing::Frame;
 use super::doing::Progress;
 use super::receiver::Receiver;
 use super::samples::Samples;
@@ -76,6 +75,41 @@ impl Samples {
         }
         digits
     }
+
+    // Those of a frame after its first clock, whose level is space.
+    fn begin(timing: &Timing) -> Samples
+        ensures taken { λ r. ⌜ taken r ≡ taken-now (sample-clocks (now (timing .entry))) 0 [] Space ⌝ }
+        ensures heard { λ r. ⌜ in-frame (now (timing .entry) .format) 0 (taken r) ≡ nothing (framing 0 (taken r)) ⌝ }
+        ensures in_step { λ r. ⌜ r .count ≡ falling-before 1 (sample-clocks (now (timing .entry))) ⌝ }
+        ensures unended { λ r. ⌜ r .count < now (timing .entry) .«sample_count» ⌝ }
+    {
+        let mut samples = Samples::none();
+        samples.take_down(timing, 0, Level::Space);
+        samples
+    }
+
+    // One more clock of the frame.
+    fn clock(&mut self, timing: &Timing, clock: u32, level: Level) -> Progress
+        requires in_step { ⌜ now self .count ≡ falling-before clock (sample-clocks (now timing)) ⌝ }
+        requires unended { ⌜ now self .count < now timing .«sample_count» ⌝ }
+        ensures taken { λ _. ⌜ taken (now (self .exit)) ≡ taken-now (sample-clocks (now (timing .entry))) clock (taken (now (self .entry))) level ⌝ }
+        ensures heard { λ r. ⌜ heard-of r clock (taken (now (self .exit))) ≡ in-frame (now (timing .entry) .format) clock (taken (now (self .exit))) ⌝ }
+        ensures in_step { λ _. ⌜ now (self .exit) .count ≡ falling-before (clock + 1) (sample-clocks (now (timing .entry))) ⌝ }
+        ensures unended { λ r. ⌜ (r ≡ Progress.GoesOn → now (self .exit) .count < now (timing .entry) .«sample_count») ⌝ }
+    {
+        self.take_down(timing, clock, level);
+        if self.count == timing.sample_count {
+            let digits = self.digits(timing.format.first_stop() + 1);
+            let (character, flags) = entry(timing.format, digits);
+            return Progress::Over(character, flags);
+        }
+        if self.count >= 3 {
+            if let Level::Mark = self.bit(0) {
+                return Progress::FalseStart;
+            }
+        }
+        Progress::GoesOn
+    }
 }
 
 fn majority(first: Level, second: Level, third: Level) -> Level
@@ -112,47 +146,62 @@ fn arrived(unread: Option<(u16, u8)>, character: u16, flags: u8) -> (u16, u8)
     }
 }
 
-impl Frame {
-    // A frame at its first clock, whose level is space.
-    fn begin(timing: &Timing) -> Frame
-        ensures clock { λ r. ⌜ r .clock ≡ 0 ⌝ }
-        ensures taken { λ r. ⌜ taken (r .samples) ≡ taken-now (sample-clocks (now (timing .entry))) 0 [] Space ⌝ }
-    {
-        let mut samples = Samples::none();
-        samples.take_down(timing, 0, Level::Space);
-        Frame { clock: 0, samples }
-    }
-
-    // One clock more.
-    fn clock(&mut self, timing: &Timing, level: Level) -> Progress
-        requires in_step { ⌜ now self .samples .count ≡ falling-before (now self .clock + 1) (sample-clocks (now timing)) ⌝ }
-        requires unended { ⌜ now self .samples .count < now timing .«sample_count» ⌝ }
-        ensures clock { λ _. ⌜ now (self .exit) .clock ≡ now (self .entry) .clock + 1 ⌝ }
-        ensures taken { λ _. ⌜ taken (now (self .exit) .samples) ≡ taken-now (sample-clocks (now (timing .entry))) (now (self .entry) .clock + 1) (taken (now (self .entry) .samples)) level ⌝ }
-        ensures heard { λ r. ⌜ heard-of r (now (self .exit)) ≡ in-frame (now (timing .entry) .format) (now (self .exit) .clock) (taken (now (self .exit) .samples)) ⌝ }
-        ensures in_step { λ _. ⌜ now (self .exit) .samples .count ≡ falling-before (now (self .exit) .clock + 1) (sample-clocks (now (timing .entry))) ⌝ }
-        ensures unended { λ r. ⌜ (r ≡ Progress.GoesOn → now (self .exit) .samples .count < now (timing .entry) .«sample_count») ⌝ }
-    {
-        self.clock += 1;
-        self.samples.take_down(timing, self.clock, level);
-        if self.samples.count == timing.sample_count {
-            let digits = self.samples.digits(timing.format.first_stop() + 1);
-            let (character, flags) = entry(timing.format, digits);
-            return Progress::Over(character, flags);
-        }
-        if self.samples.count >= 3 {
-            if let Level::Mark = self.samples.bit(0) {
-                return Progress::FalseStart;
-            }
-        }
-        Progress::GoesOn
-    }
-}
-
 impl BareReceiver {
     pub fn new(timing: Timing) -> BareReceiver
         ensures { λ r. ⌜ meant r ≡ at-rest timing ⌝ }
     {
-        BareReceiver { timing, unread: None, previous: Level::Mark, doing: Doing::Idle }
+        BareReceiver { timing, unread: None, previous: Level::Mark, doing: Doing::Idle, samples: Samples::none() }
+    }
+}
+
+pub impl Receiver for BareReceiver as BareReceiving {
+    ghost meaning = { meant };
+
+    fn format(&self) -> Format {
+        self.timing.format
+    }
+
+    fn sample_clock(&self, sample: usize) -> u32 {
+        if sample < self.timing.sample_count { self.timing.samples[sample] } else { 0 }
+    }
+
+    fn clock(&mut self, level: Level) {
+        let previous = self.previous;
+        self.previous = level;
+        match (&mut self.doing, previous, level) {
+            (Doing::Idle | Doing::Counting { .. }, Level::Mark, Level::Space) => {
+                self.samples = Samples::begin(&self.timing);
+                self.doing = Doing::Framing { clock: 0 };
+            }
+            (Doing::Idle, _, _) => {}
+            (Doing::Framing { clock }, _, _) => {
+                *clock += 1;
+                match self.samples.clock(&self.timing, *clock, level) {
+                    Progress::GoesOn => {}
+                    Progress::FalseStart => self.doing = Doing::Idle,
+                    Progress::Over(character, flags) => {
+                        self.doing = if flags < FRAMING { Doing::Idle } else { Doing::Counting { spaces: 0 } };
+                        self.unread = Some(arrived(self.unread, character, flags));
+                    }
+                }
+            }
+            (Doing::Counting { spaces }, Level::Space, Level::Space) => {
+                if *spaces + 1 < self.timing.break_length {
+                    *spaces += 1;
+                } else {
+                    self.doing = Doing::Idle;
+                    self.unread = Some(arrived(self.unread, 0, BREAK));
+                }
+            }
+            (Doing::Counting { .. }, _, Level::Mark) => self.doing = Doing::Idle,
+        }
+    }
+
+    fn read(&mut self) -> Result<(u16, u8), Refusal> {
+        let Some(entry) = self.unread else {
+            return Err(Refusal::NothingUnread);
+        };
+        self.unread = None;
+        Ok(entry)
     }
 }

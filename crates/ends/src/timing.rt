@@ -1,6 +1,6 @@
 // When an end sends and samples each bit, counted in its own clocks.
 ghost use mathlib.Core.Path.{_≡_};
-ghost use Prim.Native.Nat.{ℕ, _+_, _*_, _<_, _≤_};
+ghost use Prim.Native.Nat.{ℕ, _+_, _*_, _^_, _<_, _≤_};
 ghost use lib.ListN.{length, getD};
 ghost use Rattle.line.specs.Frames.{first-stop};
 use line::Format;
@@ -27,4 +27,5 @@ pub struct Timing {
     ghost early: { (i : ℕ) → getD samples i 0 < 1048576 },
     ghost counted: { «sample_count» ≡ 3 * (1 + first-stop format) },
     ghost breaks: { 0 < «break_length» },
+    ghost brief: { «break_length» < 2 ^ 32 },
 }

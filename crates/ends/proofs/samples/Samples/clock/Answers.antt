@@ -1,12 +1,9 @@
-use mathlib.Core.Path.{_≡_, refl, sym, ap, _∙_}
+use mathlib.Core.Path.{_≡_, sym, ap, _∙_}
 use mathlib.Core.Logic.{⊎-elim}
 use mathlib.Core.List.{List, [], _∷_}
 use Prim.Native.Nat.{ℕ, _+_, _<_, _≤_}
 use native.Mathlib.Omega.{arith}
-use borrow.Author.Needs.{needs}
 use lib.ListN.{length, drop}
-use mir.Syntax.{w32}
-use mir.Val.{Fits}
 use Rattle.std.proofs.shelf.Tests.{cases-lt}
 use Rattle.line.specs.declared.level.Level.{Level}
 use Rattle.line.specs.declared.level.Level.the-variants.{Space, Mark}
@@ -16,9 +13,9 @@ use Rattle.ends.specs.Times.{sample-count}
 use Rattle.ends.specs.Receiver.{Heard, nothing, going-on, decided, in-frame, falling-before}
 use Rattle.ends.specs.BareReceiver.{sample-clocks}
 use Rattle.ends.specs.Samples.{taken}
-use Rattle.ends.proofs.Sampling.{taken-length, in-step, not-past, clock-early, decided-more}
+use Rattle.ends.proofs.Sampling.{taken-length, in-step, not-past, decided-more}
 use Rattle.ends.proofs.InFrame.{frame-unended, few-decided, over-by-digits}
-use Rattle.ends.proofs.doing.Frame.clock.Needs as need
+use Rattle.ends.proofs.samples.Samples.clock.Needs as need
 
 -- a frame some of whose samples are to come
 short : (t : Timing) (u : Samples) (n : ℕ) → u .count ≡ falling-before n (sample-clocks t) → (u .count ≡ t .«sample_count» → ⊥) → u .count < t .«sample_count»
@@ -30,33 +27,25 @@ unended : (t : Timing) (u : Samples) (n : ℕ) (bs : List Level) → u .count < 
 unended t u n bs h e =
     ap {B = Heard} (λ l. nothing (going-on l n (taken u))) (sym e) ∙ sym (frame-unended (t .format) n (taken u) (omega (arith, h, taken-length u, t .counted)))
 
-pub add-self : need.add-self
-add-self c = fits-small (c .args .self .now .clock + 1) (clock-early (c .args .timing .now) (c .args .self .now .samples) (c .args .self .now .clock + 1) (c .pre .in-step) (c .pre .unended))
-  where
-  fits-small : (n : ℕ) → n < 1048576 → Fits w32 n
-  fits-small n h = search needs
-
 pub returns-then-self-timing : need.returns-then-self-timing
 returns-then-self-timing c =
     let t = c .args .timing .now in
     let u = c .take-down .last .self in
-    let n : ℕ = c .args .self .now .clock + 1 in
+    let n : ℕ = c .args .clock in
     let all : length (taken u) ≡ sample-count (t .format) = taken-length u ∙ c .if-self-timing .taken ∙ t .counted in
     record {
-      clock = refl;
       taken = c .take-down .ensures;
       heard = over-by-digits (t .format) n (taken u) (c .entry-character .result) (c .digits-digits .result) all (c .digits-digits .ensures .value) (c .entry-character .ensures);
-      in-step = in-step t (c .args .self .now .samples) u n (c .args .level) (c .pre .in-step) (c .take-down .ensures);
+      in-step = in-step t (c .args .self .now) u n (c .args .level) (c .pre .in-step) (c .take-down .ensures);
       unended = λ e. absurd (let z : _≡_ {A = ℕ} 0 1 = cc in omega arith) }
 
 pub returns-in-Mark : need.returns-in-Mark
 returns-in-Mark c =
     let t = c .args .timing .now in
     let u = c .take-down .last .self in
-    let n : ℕ = c .args .self .now .clock + 1 in
-    let step : u .count ≡ falling-before (n + 1) (sample-clocks t) = in-step t (c .args .self .now .samples) u n (c .args .level) (c .pre .in-step) (c .take-down .ensures) in
+    let n : ℕ = c .args .clock in
+    let step : u .count ≡ falling-before (n + 1) (sample-clocks t) = in-step t (c .args .self .now) u n (c .args .level) (c .pre .in-step) (c .take-down .ensures) in
     record {
-      clock = refl;
       taken = c .take-down .ensures;
       heard = unended t u n (Mark ∷ decided (drop 3 (taken u))) (short t u (n + 1) step (c .if-self-timing .left)) (decided-more u 0 Mark (c .if-self-ge3 .taken) (c .in-Mark .ensures tt));
       in-step = step;
@@ -66,11 +55,10 @@ pub returns-in-rest : need.returns-in-rest
 returns-in-rest c =
     let t = c .args .timing .now in
     let u = c .take-down .last .self in
-    let n : ℕ = c .args .self .now .clock + 1 in
-    let step : u .count ≡ falling-before (n + 1) (sample-clocks t) = in-step t (c .args .self .now .samples) u n (c .args .level) (c .pre .in-step) (c .take-down .ensures) in
+    let n : ℕ = c .args .clock in
+    let step : u .count ≡ falling-before (n + 1) (sample-clocks t) = in-step t (c .args .self .now) u n (c .args .level) (c .pre .in-step) (c .take-down .ensures) in
     let few : u .count < t .«sample_count» = short t u (n + 1) step (c .if-self-timing .left) in
     record {
-      clock = refl;
       taken = c .take-down .ensures;
       heard = unended t u n (Space ∷ decided (drop 3 (taken u))) few (decided-more u 0 Space (c .if-self-ge3 .taken) (c .in-rest .ensures tt));
       in-step = step;
@@ -80,11 +68,10 @@ pub returns-else-self-ge3 : need.returns-else-self-ge3
 returns-else-self-ge3 c =
     let t = c .args .timing .now in
     let u = c .take-down .last .self in
-    let n : ℕ = c .args .self .now .clock + 1 in
-    let step : u .count ≡ falling-before (n + 1) (sample-clocks t) = in-step t (c .args .self .now .samples) u n (c .args .level) (c .pre .in-step) (c .take-down .ensures) in
+    let n : ℕ = c .args .clock in
+    let step : u .count ≡ falling-before (n + 1) (sample-clocks t) = in-step t (c .args .self .now) u n (c .args .level) (c .pre .in-step) (c .take-down .ensures) in
     let few : u .count < t .«sample_count» = short t u (n + 1) step (c .if-self-timing .left) in
     record {
-      clock = refl;
       taken = c .take-down .ensures;
       heard = unended t u n [] few (few-decided (taken u) (omega (arith, taken-length u, c .if-self-ge3 .left)));
       in-step = step;

@@ -1,0 +1,4 @@
+-- The lemmas that several proofs share.
+pub mod Distance
+pub mod Samples
+pub mod Table

@@ -1,0 +1,13 @@
+-- The lowest bit of a number is its remainder by two.
+use borrow.Author.Needs.{needs}
+use mathlib.Core.Path.{_≡_}
+use Prim.Native.Nat.{ℕ, _%_}
+use lib.Bits.{bitAnd}
+use Rattle.std.proofs.shelf.Bits.{and-mask}
+use Rattle.usart.proofs.settings.Settings.bit_length.Needs as need
+
+lowest : (n : ℕ) → bitAnd n 1 ≡ n % 2
+lowest n = and-mask n 1
+
+pub returns : need.returns
+returns c = search (needs, lowest)
