@@ -3,10 +3,11 @@ use mathlib.Core.Path.{_≡_, refl, sym, ap, ap₂, _∙_}
 use mathlib.Core.Bool.{Bool, true, false, cond}
 use mathlib.Core.List.{List, [], _∷_, _++_}
 use Prim.Native.Nat.{ℕ, zero, suc, _+_, _-_, _*_, _/_, _%_, _^_, _<_}
-use native.Mathlib.Nat.{not-suc-le-zero, le-of-suc-le-suc}
+use native.Mathlib.Nat.{not-suc-le-zero, le-of-suc-le-suc, mod-eq-of-lt}
 use native.Mathlib.Omega.{arith}
 use lib.Dec.{eqb}
 use lib.ListN.{length, take, drop}
+use lib.Seq.{take-at, drop-at}
 use Rattle.std.proofs.shelf.Bits.{shr-shr}
 use Rattle.std.proofs.shelf.Ways.{tells}
 use Rattle.line.specs.declared.level.Level.{Level}
@@ -15,7 +16,7 @@ use Rattle.line.specs.declared.format.Format.{Format}
 use Rattle.line.specs.Levels.{level-of, low-bits, number}
 use Rattle.line.specs.Frames.{width, first-stop, parity-count, parity-bits}
 use Rattle.line.proofs.Digits.{low-length, number-low, drop-low, take-low}
-use Rattle.line.proofs.Bits.{parity-length}
+use Rattle.line.proofs.Bits.{parity-length, through, through-front, front, front-length}
 use Rattle.ends.specs.Receiver.{Entry, entry-of, same-levels, framing-flag}
 
 -- two lists of one length are the same levels where they are the same number
@@ -87,3 +88,40 @@ module _ (f : Format) (d : ℕ) where
     ∙ ap₂ (λ (k r : List Level). made (low-bits w (d / 2)) k r) check stop
     ∙ ap₂ (λ (c : ℕ) (b : Bool). flagged c b (framing-flag (level-of (above / 2 ^ p % 2) ∷ []))) (number-low w (d / 2)) same
     ∙ ap (λ (n : ℕ). flagged (d / 2 % 2 ^ w) (eqb (above % 2 ^ p) (number ps)) n) (stop-flag (above / 2 ^ p % 2) (omega arith))
+
+same-self : (bs : List Level) → same-levels bs bs ≡ true
+same-self [] = refl
+same-self (Space ∷ bs) = same-self bs
+same-self (Mark ∷ bs) = same-self bs
+
+low-character : (n c : ℕ) → c < 2 ^ n → number (low-bits n c) ≡ c
+low-character n c h = number-low n c ∙ mod-eq-of-lt h
+
+-- what a receiver makes of the bits of a frame
+pub entry-is : (f : Format) (c : ℕ) → c < 2 ^ width f → entry-of f (through f c) ≡ (c , 0)
+entry-is f c h =
+    ap (λ (b : List Level). made b check rest) e1
+    ∙ ap (λ (k : List Level). made bs k rest) (ap (λ (l : List Level). take (first-stop f - (1 + width f)) l) e2 ∙ e3)
+    ∙ ap (λ (r : List Level). made bs ps r) e4
+    ∙ ap₂ (λ (x : ℕ) (y : Bool). entry x y) (low-character (width f) c h) (same-self ps)
+  where
+  bs : List Level
+  bs = low-bits (width f) c
+  ps : List Level
+  ps = parity-bits (f .parity) bs
+  check : List Level
+  check = take (first-stop f - (1 + width f)) (drop (1 + width f) (through f c))
+  rest : List Level
+  rest = drop (first-stop f) (through f c)
+  entry : ℕ → Bool → Entry
+  entry x y = (x , cond y 0 2 + 0)
+  made : List Level → List Level → List Level → Entry
+  made b k r = (number b , cond (same-levels k (parity-bits (f .parity) b)) 0 2 + framing-flag r)
+  e1 : take (width f) (drop 1 (through f c)) ≡ bs
+  e1 = take-at bs (ps ++ (Mark ∷ [])) (width f) (low-length (width f) c)
+  e2 : drop (1 + width f) (through f c) ≡ ps ++ (Mark ∷ [])
+  e2 = drop-at (Space ∷ bs) (ps ++ (Mark ∷ [])) (1 + width f) (omega (arith, low-length (width f) c))
+  e3 : take (first-stop f - (1 + width f)) (ps ++ (Mark ∷ [])) ≡ ps
+  e3 = take-at ps (Mark ∷ []) (first-stop f - (1 + width f)) (omega (arith, parity-length (f .parity) bs))
+  e4 : drop (first-stop f) (through f c) ≡ Mark ∷ []
+  e4 = ap (λ (l : List Level). drop (first-stop f) l) (through-front f c) ∙ drop-at (front f c) (Mark ∷ []) (first-stop f) (front-length f c)

@@ -2,3 +2,6 @@ pub mod Shifting
 pub mod Sampling
 pub mod Entries
 pub mod InFrame
+pub mod Held
+pub mod Speaking
+pub mod Arriving

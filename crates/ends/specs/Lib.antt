@@ -2,6 +2,7 @@ pub mod Times
 pub mod Timed
 pub mod Sender
 pub mod Receiver
+pub mod Runs
 pub mod Shifts
 pub mod BareSender
 pub mod Samples

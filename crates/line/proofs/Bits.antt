@@ -18,6 +18,7 @@ use Rattle.line.specs.declared.format.StopBits.the-variants.{One, Two}
 use Rattle.line.specs.declared.format.Format.{Format}
 use Rattle.line.specs.Levels.{low-bits, number}
 use Rattle.line.specs.Frames.{data-count, width, parity-count, stop-count, first-stop, frame-bits, parity-bits, frame}
+use Rattle.line.specs.Formats.{Agree}
 use Rattle.line.proofs.Digits.{low-length, number-low, number-append}
 
 pub parity-length : (p : Parity) (bs : List Level) → length (parity-bits p bs) ≡ parity-count p
@@ -103,6 +104,15 @@ frame-through f c k d h =
   same [] p (suc k) h = absurd (not-suc-le-zero h)
   same (x ∷ xs) p zero h = refl
   same (x ∷ xs) p (suc k) h = same xs p k (le-of-suc-le-suc h)
+
+pub agree-first-stop : (f g : Format) → Agree f g → first-stop f ≡ first-stop g
+agree-first-stop f g a = cc
+
+pub agree-width : (f g : Format) → Agree f g → width f ≡ width g
+agree-width f g a = cc
+
+pub agree-through : (f g : Format) (c : ℕ) → Agree f g → through f c ≡ through g c
+agree-through f g c a = cc
 
 -- the frame as binary digits: the character, the parity bit above it, the stop bits above that
 pub frame-number : (f : Format) (c : ℕ)

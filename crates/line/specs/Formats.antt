@@ -1,4 +1,4 @@
--- A format by plain numbers.
+-- A format by plain numbers, and when two formats agree.
 use Prim.Native.Nat.{ℕ}
 use mathlib.Core.Path.{_≡_}
 use mathlib.Core.Bool.{cond}
@@ -18,3 +18,9 @@ pub record Numbers (f : Format) (data-bits address-bits parity stop-bits : ℕ) 
   pub of-address : cond (f .address) 1 0 ≡ address-bits
   pub of-parity : parity-number (f .parity) ≡ parity
   pub of-stops : stop-count (f .stops) ≡ stop-bits
+
+-- formats agree where they differ in nothing but the stop bits
+pub record Agree (f g : Format) : Type 0 where
+  pub size : f .size ≡ g .size
+  pub address : f .address ≡ g .address
+  pub parity : f .parity ≡ g .parity
