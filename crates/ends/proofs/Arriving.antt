@@ -24,7 +24,7 @@ use Rattle.ends.proofs.InFrame.{frame-over, frame-unended}
 use Rattle.ends.proofs.Entries.{entry-is}
 
 -- the same, by the parts of a receiver that change
-abbrev listens : ReceiverState → Level → Doing → List Level → List Entry
+abbrev pub listens : ReceiverState → Level → Doing → List Level → List Entry
 listens r p d [] = []
 listens r p d (l ∷ ls) = heard r p d l .arrived ++ listens r l (heard r p d l .doing) ls
 
@@ -37,7 +37,7 @@ heard-fixed r us q p e (counting n) Mark = refl
 heard-fixed r us q Mark e (counting n) Space = refl
 heard-fixed r us q Space e (counting n) Space = refl
 
-taken-by-parts : (r : ReceiverState) (us : List Entry) (p : Level) (d : Doing) (ls : List Level) → taken-down (with r us p d) ls ≡ listens r p d ls
+pub taken-by-parts : (r : ReceiverState) (us : List Entry) (p : Level) (d : Doing) (ls : List Level) → taken-down (with r us p d) ls ≡ listens r p d ls
 taken-by-parts r us p d [] = refl
 taken-by-parts r us p d (l ∷ ls) =
     let h : Heard = heard (with r us p d) p d l in

@@ -5,3 +5,4 @@ pub mod InFrame
 pub mod Held
 pub mod Speaking
 pub mod Arriving
+pub mod Reading

@@ -19,8 +19,8 @@ use Rattle.line.specs.Levels.{number}
 use Rattle.ends.specs.declared.timing.Timing.{Timing}
 use Rattle.ends.specs.declared.samples.Samples.{Samples}
 use Rattle.ends.specs.Times.{sample-count}
-use Rattle.ends.specs.Receiver.{ReceiverState, SoundReceiver, first-sample, third-sample, last-sample, falling-on, falling-before, majority, decided, taken-now}
-use Rattle.ends.specs.BareReceiver.{sample-clocks}
+use Rattle.ends.specs.Receiver.{ReceiverState, SoundReceiver, Entry, Doing, with, first-sample, third-sample, last-sample, falling-on, falling-before, majority, decided, taken-now}
+use Rattle.ends.specs.BareReceiver.{sample-clocks, at-rest}
 use Rattle.ends.specs.Samples.{taken}
 
 pub before-zero : (ss : List ℕ) → falling-before 0 ss ≡ 0
@@ -292,3 +292,13 @@ clocks-early t i = ⊎-elim
 pub clocks-apart : (t : Timing) (k : ℕ) → k < first-stop (t .format) → getD (sample-clocks t) (3 * k + 2) 0 < getD (sample-clocks t) (3 * k + 3) 0
 clocks-apart t k h =
     omega (arith, clock-at t (3 * k + 2) (omega (arith, h, t .counted)), clock-at t (3 * k + 3) (omega (arith, h, t .counted)), t .apart k (omega (arith, h, width-most (t .format), parity-most (t .format .parity))))
+
+-- a bare receiver's fixed parts are in range, whatever it holds
+pub sound-bare : (t : Timing) (us : List Entry) (p : Level) (d : Doing) → SoundReceiver (with (at-rest t) us p d)
+sound-bare t us p d = record {
+  all-samples = clocks-length t ∙ t .counted;
+  rising = clocks-step t;
+  apart = clocks-apart t;
+  early = clocks-early t;
+  breaks = t .breaks;
+  room = omega arith }
