@@ -101,7 +101,7 @@ module _ (s : SenderState) (oks : SoundSender s) (r : ReceiverState) (okr : Soun
   long =
     let f : ℕ = first-stop (r .format) in
     let i = inside f (omega arith) in
-    omega (arith, i .1, held-length (s .lengths) (frame (s .format) c) fits, sum-mono (f + 1) (length (frame (s .format) c)) (s .lengths) (omega (arith, many)))
+    omega (arith, i .1, held-length (s .lengths) (frame (s .format) c), sum-mono (f + 1) (length (frame (s .format) c)) (s .lengths) (omega (arith, many)))
 
   -- the samples taken before clock n
   pub record Before (n : ℕ) (xs : List Level) : Type 0 where

@@ -32,12 +32,11 @@ level-at (suc k) (n ∷ ns) (b ∷ bs) j d in-bits fits from to =
     getD-append-right (replicate n b) (held ns bs) n j d (length-replicate n b) (omega arith)
     ∙ level-at k ns bs (j - n) d (omega arith) (omega arith) (omega arith) (omega arith)
 
-pub held-length : (ns : List ℕ) (bs : List Level) → length bs ≤ length ns → length (held ns bs) ≡ sum (take (length bs) ns)
-held-length ns [] fits = ap length (held-none ns)
-held-length [] (b ∷ bs) fits = absurd (not-suc-le-zero fits)
-held-length (n ∷ ns) (b ∷ bs) fits =
-    length-append (replicate n b) (held ns bs) ∙ ap (λ (x : ℕ). x + length (held ns bs)) (length-replicate n b)
-    ∙ ap (λ (x : ℕ). n + x) (held-length ns bs (le-of-suc-le-suc fits))
+pub held-length : (ns : List ℕ) (bs : List Level) → length (held ns bs) ≡ sum (take (length bs) ns)
+held-length ns [] = ap length (held-none ns)
+held-length [] (b ∷ bs) = refl
+held-length (n ∷ ns) (b ∷ bs) =
+    length-append (replicate n b) (held ns bs) ∙ ap (λ (x : ℕ). x + length (held ns bs)) (length-replicate n b) ∙ ap (λ (x : ℕ). n + x) (held-length ns bs)
 
 pub marks-held : (ns : List ℕ) (m j : ℕ) → getD (held ns (replicate m Mark)) j Mark ≡ Mark
 marks-held [] m j = refl

@@ -20,7 +20,8 @@ use Rattle.ends.specs.declared.timing.Timing.{Timing}
 use Rattle.ends.specs.declared.samples.Samples.{Samples}
 use Rattle.ends.specs.Times.{sample-count}
 use Rattle.ends.specs.Receiver.{ReceiverState, SoundReceiver, Entry, Doing, with, first-sample, third-sample, last-sample, falling-on, falling-before, majority, decided, taken-now}
-use Rattle.ends.specs.BareReceiver.{sample-clocks, at-rest}
+use Rattle.ends.specs.BareReceiver.{at-rest}
+use Rattle.ends.specs.Timed.{sample-clocks}
 use Rattle.ends.specs.Samples.{taken}
 
 pub before-zero : (ss : List ℕ) → falling-before 0 ss ≡ 0

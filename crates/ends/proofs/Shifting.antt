@@ -16,10 +16,12 @@ use Rattle.line.specs.Levels.{level-of, low-bits, number}
 use Rattle.line.specs.Frames.{frame-bits, frame}
 use Rattle.line.proofs.Digits.{low-number}
 use Rattle.line.proofs.Bits.{frame-length}
+use Rattle.ends.specs.declared.timing.Timing.{Timing}
 use Rattle.ends.specs.declared.shift.Shift.{Shift}
 use Rattle.ends.specs.Times.{held}
 use Rattle.ends.specs.Shifts.{shift-levels, left-of, clocks-of}
-use Rattle.ends.specs.Sender.{SenderState, holding, ready}
+use Rattle.ends.specs.Sender.{SenderState, SoundSender, holding, ready}
+use Rattle.ends.specs.BareSender.{at-rest}
 
 abbrev register : ℕ → ℕ → ℕ → Shift
 register d k n = record { digits = d; bit = k; clocks = n }
@@ -83,3 +85,8 @@ pub goes-on : (s : SenderState) (f : Format) (lengths : List ℕ) (o : Option Sh
 goes-on s f lengths None w some h = absurd (let z : _≡_ {A = ℕ} 0 1 = cc in omega arith)
 goes-on s f lengths (Some x) w some h =
     subst (λ (l : List Level). holding s l w ≡ ready s l w) (sym (same-bit f lengths (x .digits) (x .bit) (x .clocks) h)) refl
+
+-- a bare sender that has nothing to send is in range
+pub sound-rest : (t : Timing) → SoundSender (at-rest t)
+sound-rest t = record {
+  thirteen = t .thirteen; lasting = t .lasting; short = t .short; room = omega arith; few = omega arith; narrow = λ i h. absurd (omega arith) }

@@ -3,7 +3,8 @@ use mathlib.Core.Path.{_≡_, refl, sym, ap, _∙_}
 use mathlib.Core.List.{List, [], _∷_, _++_}
 use Prim.Native.Nat.{ℕ, zero, suc, _+_, _<_}
 use native.Mathlib.Omega.{arith}
-use lib.ListN.{length, drop, getD, replicate}
+use lib.ListN.{length, drop, getD, replicate, set}
+use Rattle.std.proofs.shelf.Lists.{append-assoc, drop-more, set-at}
 use lib.Seq.{drop-nil}
 use Rattle.line.specs.declared.level.Level.{Level}
 use Rattle.line.specs.declared.level.Level.the-variants.{Mark}
@@ -11,7 +12,7 @@ use Rattle.line.specs.declared.format.Format.{Format}
 use Rattle.line.specs.Frames.{frame}
 use Rattle.ends.specs.Times.{held}
 use Rattle.ends.specs.Sender.{SenderState, SoundSender, frame-levels, frames, holding, first-of, rest-of, sent, after-send}
-use Rattle.ends.specs.Runs.{after-sends, due, Sends}
+use Rattle.ends.specs.Runs.{after-sends, spoken, due, Sends}
 
 -- a frame has a first level
 pub record Begun (ls : List Level) : Type 0 where
@@ -30,7 +31,7 @@ frame-begun s ok c = from (s .lengths) (frame (s .format) c) (omega (arith, ok .
   from (n ∷ ns) [] h k p = absurd (omega arith)
   from (n ∷ ns) (b ∷ bs) h k p = held-first n ns b bs p
 
-frames-held : (s : SenderState) (l : List Level) (w cs : List ℕ) → frames (holding s l w) cs ≡ frames s cs
+pub frames-held : (s : SenderState) (l : List Level) (w cs : List ℕ) → frames (holding s l w) cs ≡ frames s cs
 frames-held s l w [] = refl
 frames-held s l w (c ∷ cs) = ap {B = List Level} (λ x. frame-levels s c ++ x) (frames-held s l w cs)
 
@@ -74,3 +75,34 @@ sends s begun (suc n) =
   drop-next : (l : List Level) → drop n (drop 1 l) ≡ drop (suc n) l
   drop-next [] = drop-nil n
   drop-next (x ∷ l) = refl
+
+after-one-more : (s : SenderState) (n : ℕ) → after-sends s (suc n) ≡ after-send (after-sends s n)
+after-one-more s zero = refl
+after-one-more s (suc n) = after-one-more (after-send s) n
+
+spoken-push : (s : SenderState) (n : ℕ) → spoken s (suc n) ≡ spoken s n ++ (sent (after-sends s n) ∷ [])
+spoken-push s zero = refl
+spoken-push s (suc n) = ap {B = List Level} (λ l. sent s ∷ l) (spoken-push (after-send s) n)
+
+spoken-length : (s : SenderState) (n : ℕ) → length (spoken s n) ≡ n
+spoken-length s zero = refl
+spoken-length s (suc n) = ap suc (spoken-length (after-send s) n)
+
+-- one clock more, of a sender that has come to be u
+module _ (s : SenderState) (n : ℕ) (u : SenderState) (is : u ≡ after-sends s n) where
+  pub one-send : after-send u ≡ after-sends s (n + 1)
+  one-send = ap after-send is ∙ sym (after-one-more s n) ∙ ap (after-sends s) (one n)
+    where
+    one : (n : ℕ) → suc n ≡ n + 1
+    one n = omega arith
+
+  pub spoken-more : (l : Level) (old now : List Level) → n < length old → l ≡ sent u → now ≡ spoken s n ++ drop n old
+    → set now n l ≡ spoken s (n + 1) ++ drop (n + 1) old
+  spoken-more l old now within level written =
+    ap (λ (x : List Level). set x n l) (written ∙ ap {B = List Level} (λ x. spoken s n ++ x) (drop-more old n Mark within))
+    ∙ set-at (spoken s n) (getD old n Mark) (drop (n + 1) old) l n (spoken-length s n)
+    ∙ sym (append-assoc (spoken s n) (l ∷ []) (drop (n + 1) old))
+    ∙ ap {B = List Level} (λ x. x ++ drop (n + 1) old) (ap {B = List Level} (λ x. spoken s n ++ (x ∷ [])) (level ∙ ap sent is) ∙ sym (spoken-push s n) ∙ ap (spoken s) (one n))
+    where
+    one : (n : ℕ) → suc n ≡ n + 1
+    one n = omega arith

@@ -1,7 +1,6 @@
 -- What a bare receiver means.
 use Prim.Native.Nat.{ℕ}
 use mathlib.Core.List.{List, [], _∷_}
-use lib.ListN.{take}
 use Rattle.std.specs.Vec.{listOf}
 use Rattle.line.specs.declared.level.Level.{Level}
 use Rattle.line.specs.declared.level.Level.the-variants.{Mark}
@@ -12,15 +11,13 @@ use Rattle.ends.specs.declared.doing.Progress.{Progress}
 use Rattle.ends.specs.declared.doing.Progress.the-variants.{GoesOn, FalseStart, Over}
 use Rattle.ends.specs.declared.bare_receiver.BareReceiver.{BareReceiver}
 use Rattle.ends.specs.Receiver.{ReceiverState, Doing as Meant, idle, framing, counting, Heard, nothing, after-frame}
+use Rattle.ends.specs.Timed.{sample-clocks}
 use Rattle.ends.specs.Samples.{taken}
 
 abbrev pub doing-of : Doing → List Level → Meant
 doing-of Idle ls = idle
 doing-of (Framing clock) ls = framing clock ls
 doing-of (Counting spaces) ls = counting spaces
-
-abbrev pub sample-clocks : Timing → List ℕ
-sample-clocks t = take (t .«sample_count») (t .samples)
 
 abbrev pub meant : BareReceiver → ReceiverState
 meant r = record {

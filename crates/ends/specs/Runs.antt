@@ -32,6 +32,11 @@ pub record Sends (s : SenderState) (n : ℕ) : Type 0 where
   pub level : sent (after-sends s n) ≡ getD (due s) n Mark
   pub rest : due (after-sends s n) ≡ drop n (due s)
 
+-- the receiver after some levels
+abbrev pub after-levels : ReceiverState → List Level → ReceiverState
+after-levels r [] = r
+after-levels r (l ∷ ls) = after-levels (after-clock r l) ls
+
 -- the entries that arrive while a receiver is given some levels
 abbrev pub taken-down : ReceiverState → List Level → List Entry
 taken-down r [] = []

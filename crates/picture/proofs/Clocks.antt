@@ -6,8 +6,10 @@ use native.Mathlib.Nat.{suc-mul}
 use native.Mathlib.Omega.{arith}
 use lib.LanesLaws.{map-replicate}
 use lib.ListN.{length, drop, getD, replicate}
+use lib.ListN.{List·getD-map}
 use Rattle.std.proofs.shelf.Lists.{length-append, length-map, length-replicate, map-append, drop-more}
 use Rattle.line.specs.declared.level.Level.{Level}
+use Rattle.line.specs.declared.level.Level.the-variants.{Mark}
 use Rattle.line.specs.declared.format.Format.{Format}
 use Rattle.line.specs.Levels.{byte-of, level-of, low-bits, number}
 use Rattle.line.specs.Frames.{frame-bits, frame}
@@ -15,19 +17,15 @@ use Rattle.line.proofs.Digits.{low-number}
 use Rattle.line.proofs.Bits.{frame-length, frame-fits}
 use Rattle.ends.specs.declared.timing.Timing.{Timing}
 use Rattle.ends.specs.Times.{start-of, held}
-use Rattle.ends.specs.Sender.{frames}
+use Rattle.ends.specs.Sender.{frames, frame-levels}
 use Rattle.ends.specs.BareSender.{at-rest}
-use Rattle.ends.proofs.Shifting.{held-none}
-use Rattle.picture.specs.Drawing.{bytes, frame-clocks, drawn-frame, drawn}
+use Rattle.ends.proofs.Held.{held-length}
+use Rattle.ends.proofs.Shifting.{held-none, sound-rest}
+use Rattle.ends.proofs.Speaking.{Begun, frame-begun, frames-held, sends}
+use Rattle.picture.specs.Drawing.{bytes, frame-clocks, drawn-frame, drawn, loaded, AsSent}
 
 pub bits-most : (f : Format) → frame-bits f ≤ 13
 bits-most f = omega (arith, frame-length f 0, frame-fits f 0)
-
-held-length : (ns : List ℕ) (bs : List Level) → length (held ns bs) ≡ start-of ns (length bs)
-held-length [] [] = refl
-held-length [] (b ∷ bs) = refl
-held-length (n ∷ ns) [] = refl
-held-length (n ∷ ns) (b ∷ bs) = omega (arith, length-append (replicate n b) (held ns bs), length-replicate n b, held-length ns bs)
 
 levels-length : (t : Timing) (c : ℕ) → length (held (t .lengths) (frame (t .format) c)) ≡ frame-clocks t
 levels-length t c = held-length (t .lengths) (frame (t .format) c) ∙ ap (start-of (t .lengths)) (frame-length (t .format) c)
@@ -91,3 +89,12 @@ pub past-last : (t : Timing) (k d : ℕ) → frame-bits (t .format) ≤ k → fr
 past-last t k d h =
     let none : frame-bits (t .format) - k ≡ 0 = omega arith in
     ap {B = List ℕ} (λ m. bytes (held (drop k (t .lengths)) (low-bits m d))) none ∙ ap {A = List Level} (map byte-of) (held-none (drop k (t .lengths)))
+
+begun : (t : Timing) (cs : List ℕ) (c : ℕ) → Begun (frame-levels (loaded t cs) c)
+begun t cs c = frame-begun (at-rest t) (sound-rest t) c
+
+-- what is drawn is what a sender's clocks answer
+pub as-sent : (t : Timing) (cs : List ℕ) → AsSent t cs
+as-sent t cs k =
+    ap byte-of (sends (loaded t cs) (begun t cs) k .level ∙ ap (λ (l : List Level). getD l k Mark) (frames-held (at-rest t) [] cs cs))
+    ∙ sym (List·getD-map byte-of (frames (at-rest t) cs) k Mark)

@@ -1,9 +1,10 @@
 -- What a drawing holds, and when a call to draw declines.
 use Prim.Native.Nat.{ℕ, _^_}
+use mathlib.Core.Path.{_≡_}
 use mathlib.Core.Bool.{Bool, false, cond, _||_}
 use mathlib.Core.List.{List, [], _∷_, map}
 use lib.Dec.{leb, ltb}
-use lib.ListN.{length}
+use lib.ListN.{length, getD}
 use Rattle.std.specs.declared.result.Result.{Result}
 use Rattle.std.specs.declared.result.Result.the-variants.{Ok, Err}
 use Rattle.line.specs.declared.level.Level.{Level}
@@ -14,8 +15,9 @@ use Rattle.line.specs.Levels.{byte-of}
 use Rattle.line.specs.Frames.{width, frame-bits}
 use Rattle.ends.specs.declared.timing.Timing.{Timing}
 use Rattle.ends.specs.Times.{start-of}
-use Rattle.ends.specs.Sender.{frame-levels, frames}
+use Rattle.ends.specs.Sender.{SenderState, frame-levels, frames, sent}
 use Rattle.ends.specs.BareSender.{at-rest}
+use Rattle.ends.specs.Runs.{after-sends}
 
 -- a byte for each level
 abbrev pub bytes : List Level → List ℕ
@@ -47,3 +49,11 @@ abbrev pub draw-answer : Timing → List ℕ → ℕ → Result ℕ Refusal
 draw-answer t cs room =
     cond (any-wide (t .format) cs) (Err TooWide)
     (cond (ltb 4096 (length cs) || ltb room (length (drawn t cs))) (Err TooShort) (Ok (length (drawn t cs))))
+
+-- a sender with these times that has nothing on the line and these characters to send
+abbrev pub loaded : Timing → List ℕ → SenderState
+loaded t cs = record { format = t .format; lengths = t .lengths; capacity = length cs; left = []; waiting = cs }
+
+-- Clock k of such a sender answers the level of byte k, and mark past the picture's end.
+abbrev pub AsSent : Timing → List ℕ → Type 0
+AsSent t cs = (k : ℕ) → byte-of (sent (after-sends (loaded t cs) k)) ≡ getD (drawn t cs) k 1

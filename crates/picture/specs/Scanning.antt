@@ -17,7 +17,8 @@ use Rattle.ends.specs.declared.timing.Timing.{Timing}
 use Rattle.ends.specs.Times.{Inside}
 use Rattle.ends.specs.Sender.{SenderState, SoundSender}
 use Rattle.ends.specs.Receiver.{Entry}
-use Rattle.ends.specs.BareReceiver.{at-rest, sample-clocks}
+use Rattle.ends.specs.BareReceiver.{at-rest}
+use Rattle.ends.specs.Timed.{sample-clocks}
 use Rattle.ends.specs.Runs.{taken-down, Sent, transmission, AllNarrow, clean}
 use Rattle.picture.specs.Drawing.{bytes}
 

@@ -4,7 +4,7 @@ ghost use mathlib.Core.List.{_++_};
 ghost use Prim.Native.Nat.{_*_, _≤_};
 ghost use lib.ListN.{length, drop, replicate};
 ghost use Rattle.std.specs.Results.{Cases};
-ghost use Rattle.picture.specs.Drawing.{frame-clocks, drawn-frame, drawn, any-wide, draw-answer};
+ghost use Rattle.picture.specs.Drawing.{frame-clocks, drawn-frame, drawn, any-wide, draw-answer, AsSent};
 use ends::Timing;
 use line::Format;
 use line::Refusal;
@@ -16,6 +16,7 @@ const MOST_CHARACTERS: usize = 4096;
 pub fn draw(timing: &Timing, characters: &[u16], picture: &mut [u8]) -> Result<usize, Refusal>
     ensures answer { λ r. ⌜ r ≡ draw-answer (now (timing .entry)) (now (characters .entry)) (length (now (picture .entry))) ⌝ }
     ensures picture { λ r. ⌜ Cases r (λ n. now (picture .exit) ≡ drawn (now (timing .entry)) (now (characters .entry)) ++ drop n (now (picture .entry))) (λ _. now (picture .exit) ≡ now (picture .entry)) ⌝ }
+    ensures sent { λ _. ⌜ AsSent (now (timing .entry)) (now (characters .entry)) ⌝ }
 {
     if any_wide(timing.format, characters) {
         return Err(Refusal::TooWide);

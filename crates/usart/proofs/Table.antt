@@ -31,6 +31,18 @@ short [] a k = omega arith
 short (n ∷ ns) a zero = a .0 .1
 short (n ∷ ns) a (suc k) = short ns (a .1) k
 
+-- what is used of the table is sampled as the whole is
+pub inside-used : (ns clocks : List ℕ) (last n : ℕ) → 3 * (1 + last) ≡ n → Inside ns clocks last → Inside ns (take n clocks) last
+inside-used ns clocks last n size within k h =
+    (omega (arith, within k h .0, getD-take n clocks (3 * k) 0 (omega arith)), omega (arith, within k h .1, getD-take n clocks (3 * k + 2) 0 (omega arith)))
+
+pub centred-used : (ns clocks : List ℕ) (last n : ℕ) → 3 * (1 + last) ≡ n → Centred ns clocks last → Centred ns (take n clocks) last
+centred-used ns clocks last n size even k h =
+    let a = getD-take n clocks (3 * k) 0 (omega arith) in
+    let b = getD-take n clocks (3 * k + 1) 0 (omega arith) in
+    let c = getD-take n clocks (3 * k + 2) 0 (omega arith) in
+    rw (a, b, c) (even k h)
+
 -- what the two tables keep
 pub record Tables (ns clocks : List ℕ) : Type 0 where
   pub thirteen : length ns ≡ 13

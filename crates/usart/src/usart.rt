@@ -6,7 +6,7 @@ ghost use Rattle.std.specs.Results.{Cases};
 ghost use Rattle.std.specs.declared.result.Result.the-variants.{Ok};
 ghost use Rattle.line.specs.Frames.{first-stop};
 ghost use Rattle.ends.specs.Times.{Inside};
-ghost use Rattle.ends.specs.Timed.{answered};
+ghost use Rattle.ends.specs.Timed.{answered, sample-clocks};
 ghost use Rattle.usart.specs.Usart.{lengths, distance, bit-samples, samples, usart-times, Spaced, Lasting, Centred};
 use super::settings::Settings;
 use ends::Kind;
@@ -24,8 +24,8 @@ pub impl Kind for Usart as UsartKind {
 
     fn timing(format: Format, settings: Settings) -> Result<Timing, Refusal>
         ensures times { λ r. ⌜ answered r ≡ Ok (usart-times format (settings .divider) (settings .modulator)) ⌝ }
-        ensures inside { λ r. ⌜ Cases r (λ t. Inside (t .lengths) (t .samples) (first-stop format)) (λ _. ⊥) ⌝ }
-        ensures centred { λ r. ⌜ Cases r (λ t. Centred (t .lengths) (t .samples) (first-stop format)) (λ _. ⊥) ⌝ }
+        ensures inside { λ r. ⌜ Cases r (λ t. Inside (t .lengths) (sample-clocks t) (first-stop format)) (λ _. ⊥) ⌝ }
+        ensures centred { λ r. ⌜ Cases r (λ t. Centred (t .lengths) (sample-clocks t) (first-stop format)) (λ _. ⊥) ⌝ }
     {
         let lengths = bit_lengths(&settings);
         Ok(Timing {

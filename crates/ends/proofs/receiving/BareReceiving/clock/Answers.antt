@@ -8,7 +8,7 @@ use Rattle.ends.specs.declared.bare_receiver.BareReceiver.{BareReceiver}
 use Rattle.ends.specs.declared.doing.Doing.{Doing}
 use Rattle.ends.specs.declared.doing.Doing.the-variants.{Framing, Counting}
 use Rattle.ends.specs.Samples.{taken-by, due-by, spaces-by}
-use Rattle.ends.specs.BareReceiver.{sample-clocks}
+use Rattle.ends.specs.Timed.{sample-clocks}
 use Rattle.ends.proofs.Sampling.{clock-early}
 use Rattle.ends.proofs.receiving.BareReceiving.clock.Needs as need
 

@@ -1,7 +1,7 @@
 use mathlib.Core.Path.{sym}
 use native.Mathlib.Omega.{arith}
 use Rattle.std.proofs.shelf.Lists.{getD-past}
-use Rattle.ends.specs.BareReceiver.{sample-clocks}
+use Rattle.ends.specs.Timed.{sample-clocks}
 use Rattle.ends.proofs.Sampling.{clock-at, clocks-length}
 use Rattle.ends.proofs.receiving.BareReceiving.sample_clock.Needs as need
 

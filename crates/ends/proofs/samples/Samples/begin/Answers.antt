@@ -6,7 +6,7 @@ use lib.ListN.{length, replicate, length-replicate, take}
 use Rattle.line.specs.declared.level.Level.{Level}
 use Rattle.line.specs.declared.level.Level.the-variants.{Space}
 use Rattle.ends.specs.Receiver.{in-frame, nothing, framing, falling-on, falling-before, taken-now}
-use Rattle.ends.specs.BareReceiver.{sample-clocks}
+use Rattle.ends.specs.Timed.{sample-clocks}
 use Rattle.ends.specs.Samples.{taken}
 use Rattle.ends.proofs.Sampling.{before-zero, before-more, few-at-first, in-step}
 use Rattle.ends.proofs.InFrame.{starts}

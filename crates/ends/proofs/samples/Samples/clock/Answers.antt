@@ -11,7 +11,7 @@ use Rattle.ends.specs.declared.timing.Timing.{Timing}
 use Rattle.ends.specs.declared.samples.Samples.{Samples}
 use Rattle.ends.specs.Times.{sample-count}
 use Rattle.ends.specs.Receiver.{Heard, nothing, going-on, decided, in-frame, falling-before}
-use Rattle.ends.specs.BareReceiver.{sample-clocks}
+use Rattle.ends.specs.Timed.{sample-clocks}
 use Rattle.ends.specs.Samples.{taken}
 use Rattle.ends.proofs.Sampling.{taken-length, in-step, not-past, decided-more}
 use Rattle.ends.proofs.InFrame.{frame-unended, few-decided, over-by-digits}

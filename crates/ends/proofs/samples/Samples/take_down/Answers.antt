@@ -10,7 +10,7 @@ use Rattle.std.proofs.shelf.Tests.{cases-lt}
 use Rattle.line.specs.declared.level.Level.{Level}
 use Rattle.ends.specs.declared.timing.Timing.{Timing}
 use Rattle.ends.specs.Receiver.{falling-on, falling-before, taken-now}
-use Rattle.ends.specs.BareReceiver.{sample-clocks}
+use Rattle.ends.specs.Timed.{sample-clocks}
 use Rattle.ends.specs.Samples.{taken}
 use Rattle.ends.proofs.Sampling.{clocks-length, clocks-rising, clock-at, none-from, on-after-before, one-on, over-clock}
 use Rattle.ends.proofs.samples.Samples.take_down.Needs as need
