@@ -11,7 +11,8 @@ use Rattle.ends.specs.declared.doing.Progress.{Progress}
 use Rattle.ends.specs.declared.doing.Progress.the-variants.{GoesOn, FalseStart, Over}
 use Rattle.ends.specs.declared.bare_receiver.BareReceiver.{BareReceiver}
 use Rattle.ends.specs.Receiver.{ReceiverState, Doing as Meant, idle, framing, counting, Heard, nothing, after-frame}
-use Rattle.ends.specs.Timed.{sample-clocks}
+use Rattle.ends.specs.Times.{Times}
+use Rattle.ends.specs.Timed.{sample-clocks, times-of}
 use Rattle.ends.specs.Samples.{taken}
 
 abbrev pub doing-of : Doing → List Level → Meant
@@ -25,10 +26,13 @@ meant r = record {
   unread = listOf (r .unread); previous = r .previous; doing = doing-of (r .doing) (taken (r .samples)) }
 
 -- a bare receiver with these times that has heard nothing
-abbrev pub at-rest : Timing → ReceiverState
-at-rest t = record {
-  format = t .format; samples = sample-clocks t; break-length = t .«break_length»; capacity = 1;
+abbrev pub resting : Times → ReceiverState
+resting t = record {
+  format = t .format; samples = t .samples; break-length = t .break-length; capacity = 1;
   unread = []; previous = Mark; doing = idle }
+
+abbrev pub at-rest : Timing → ReceiverState
+at-rest t = resting (times-of t)
 
 -- what the progress of a frame comes to, at this clock of it and with these samples
 abbrev pub heard-of : Progress → ℕ → List Level → Heard

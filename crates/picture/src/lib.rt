@@ -2,7 +2,9 @@
 pub mod drawing;
 pub mod runs;
 pub mod scanning;
+pub mod spoiling;
 
 pub use drawing::draw;
 pub use runs::run_length;
 pub use scanning::scan;
+pub use spoiling::hold_space;

@@ -1,0 +1,180 @@
+// The lock line bench: a lock's record drawn as its port sends it, and scanned back.
+mod flags;
+
+use ends::Timing;
+use flags::Flags;
+use flags::FlagsDisplay;
+use lock::CLOCK_HERTZ;
+use lock::DIVIDER;
+use lock::MODULATOR;
+use lock::lock_timing;
+use picture::draw;
+use picture::hold_space;
+use picture::run_length;
+use picture::scan;
+use std::env;
+use std::error::AnyError;
+use std::io;
+
+const SAMPLE: &str = "2026-11-17 08:59 opened, key 4";
+
+// No character of the lock's takes more clocks.
+const MOST_CLOCKS: usize = 4096 * 80;
+
+const HELP: &str = "usage: bench [RECORD]
+
+Draws a lock's record, a line of text, level by level as the lock's port sends
+it, scans the picture back, then spoils the picture in two places and tells
+which characters carry which flags. Without a record it takes a sample.";
+
+fn main(rt: LibcRuntime) -> Result<(), AnyError> {
+    rt.report(run(&rt))
+}
+
+fn run(rt: &LibcRuntime) -> Result<(), AnyError> {
+    let mut words = env::args(rt)?;
+    let _ = words.next();
+    let Some(word) = words.next() else {
+        return demo(rt, SAMPLE);
+    };
+    if words.next().is_some() {
+        return Err("more than one record; put a record in quotes".into());
+    }
+    if word.as_str() == "--help" {
+        rt.println(HELP)?;
+        return Ok(());
+    }
+    demo(rt, word.as_str())
+}
+
+fn demo(rt: &LibcRuntime, record: &str) -> Result<(), AnyError> {
+    if record.is_empty() {
+        return Err("the record is empty".into());
+    }
+    let Ok(timing) = lock_timing() else {
+        return Err("the lock's settings are out of range".into());
+    };
+    let mut picture = drawn(rt, &timing, record)?;
+    print_sent(rt, record, picture.as_slice())?;
+    let entries = scanned(rt, &timing, picture.as_slice())?;
+    let count = entries.len();
+    println!(rt, "Scanned back: {count} characters")?;
+    print_text(rt, entries.as_slice())?;
+    println!(rt, "")?;
+    let clocks = picture.len() / record.len();
+    spoil_two_places(rt, &timing, picture.as_mut_slice(), clocks)?;
+    let spoiled = scanned(rt, &timing, picture.as_slice())?;
+    let left = spoiled.len();
+    println!(rt, "Scanned: {left} entries")?;
+    print_text(rt, spoiled.as_slice())?;
+    print_flagged(rt, spoiled.as_slice())?;
+    Ok(())
+}
+
+fn drawn(rt: &LibcRuntime, timing: &Timing, record: &str) -> Result<Vec<u8>, AnyError> {
+    let mut characters = Vec::new(rt.alloc());
+    for byte in record.bytes() {
+        characters.push(u16::from(byte))?;
+    }
+    let mut picture = vec![in rt.alloc(); 0; MOST_CLOCKS]?;
+    let Ok(clocks) = draw(timing, characters.as_slice(), picture.as_mut_slice()) else {
+        return Err("the record has more than 4,096 characters".into());
+    };
+    picture.truncate(clocks);
+    Ok(picture)
+}
+
+fn scanned(rt: &LibcRuntime, timing: &Timing, picture: &[u8]) -> Result<Vec<(u16, u8)>, AnyError> {
+    let mut entries = vec![in rt.alloc(); (0, 0); picture.len()]?;
+    let Ok(count) = scan(timing, picture, entries.as_mut_slice()) else {
+        return Err("the picture has a byte that is no level".into());
+    };
+    entries.truncate(count);
+    Ok(entries)
+}
+
+// What the lock has put on the line, and its first character level by level.
+fn print_sent(rt: &LibcRuntime, record: &str, picture: &[u8]) -> Result<(), AnyError> {
+    let characters = record.len();
+    let clocks = picture.len();
+    println!(rt, "Record:  {record}")?;
+    println!(rt, "Port:    divider {DIVIDER}, modulator {MODULATOR:02X}h, 8N1, clocked at {CLOCK_HERTZ} Hz")?;
+    let tenths = (clocks as u64).saturating_mul(10000) / CLOCK_HERTZ;
+    let whole = tenths / 10;
+    let tenth = tenths % 10;
+    println!(rt, "Drawn:   {characters} characters, {clocks} clocks, {whole}.{tenth} ms on the line")?;
+    println!(rt, "")?;
+    let Some(first) = record.bytes().next() else {
+        return Ok(());
+    };
+    let shown = readable(u16::from(first));
+    println!(rt, "The first character, '{shown}' ({first:02X}h), level by level:")?;
+    if characters > 0 {
+        print_runs(rt, &picture[0..clocks / characters])?;
+    }
+    println!(rt, "")?;
+    Ok(())
+}
+
+// Takes the stop bit of one character away, and holds the line at space for the length of two others.
+fn spoil_two_places(rt: &LibcRuntime, timing: &Timing, picture: &mut [u8], clocks: usize) -> Result<(), AnyError> {
+    let characters = picture.len() / clocks.max(1);
+    let one = characters / 3;
+    let stop = one.saturating_add(1).saturating_mul(clocks);
+    let stop_begin = stop.saturating_sub(timing.lengths[9] as usize);
+    hold_space(picture, stop_begin, stop);
+    println!(rt, "Spoiled: clocks {stop_begin} to {stop} held at space, the stop bit of character {}", one.saturating_add(1))?;
+    let two = characters / 3 * 2;
+    let from = two.saturating_mul(clocks);
+    let to = from.saturating_add(clocks.saturating_mul(2));
+    hold_space(picture, from, to);
+    println!(rt, "         clocks {from} to {to} held at space, two characters from {}", two.saturating_add(1))?;
+    println!(rt, "")?;
+    Ok(())
+}
+
+// A character as a person reads it: itself where it can be printed, and a dot where not.
+fn readable(character: u16) -> char {
+    match character {
+        0x20..=0x7e => char::from((character & 0x7f) as u8),
+        _ => '.',
+    }
+}
+
+// The runs of equal levels of a picture, one to a line.
+fn print_runs(rt: &LibcRuntime, picture: &[u8]) -> io::Result<()> {
+    println!(rt, "  from clock  level  clocks")?;
+    let mut at = 0;
+    while at < picture.len() {
+        let clocks = run_length(&picture[at..]);
+        let level = if picture[at] == 0 { "space" } else { "mark" };
+        println!(rt, "  {at:>10}  {level:<5}  {clocks:>6}")?;
+        at += clocks;
+    }
+    Ok(())
+}
+
+// The characters of the entries, as text.
+fn print_text(rt: &LibcRuntime, entries: &[(u16, u8)]) -> io::Result<()> {
+    print!(rt, "  ")?;
+    for entry in entries {
+        let shown = readable(entry.0);
+        print!(rt, "{shown}")?;
+    }
+    println!(rt, "")
+}
+
+// The entries that carry a flag, one to a line.
+fn print_flagged(rt: &LibcRuntime, entries: &[(u16, u8)]) -> io::Result<()> {
+    println!(rt, "  entry  character  flags")?;
+    for (i, entry) in entries.iter().enumerate() {
+        let (character, bits) = *entry;
+        if bits != 0 {
+            let number = i.saturating_add(1);
+            let shown = readable(character);
+            let flags = Flags(bits);
+            println!(rt, "  {number:>5}  {character:>4X}h '{shown}'  {flags}")?;
+        }
+    }
+    Ok(())
+}
