@@ -5,7 +5,12 @@ use ends::OVERRUN;
 use ends::PARITY;
 use std::fmt;
 
-const NAMES: [(u8, &str); 4] = [(OVERRUN, "overrun"), (PARITY, "parity error"), (FRAMING, "framing error"), (BREAK, "break")];
+const NAMES: [(u8, &str); 4] = [
+    (OVERRUN, "overrun"),
+    (PARITY, "parity error"),
+    (FRAMING, "framing error"),
+    (BREAK, "break"),
+];
 
 #[derive(Clone, Copy)]
 pub struct Flags(pub u8);

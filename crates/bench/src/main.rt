@@ -98,17 +98,26 @@ fn print_sent(rt: &LibcRuntime, record: &str, picture: &[u8]) -> Result<(), AnyE
     let characters = record.len();
     let clocks = picture.len();
     println!(rt, "Record:  {record}")?;
-    println!(rt, "Port:    divider {DIVIDER}, modulator {MODULATOR:02X}h, 8N1, clocked at {CLOCK_HERTZ} Hz")?;
+    println!(
+        rt,
+        "Port:    divider {DIVIDER}, modulator {MODULATOR:02X}h, 8N1, clocked at {CLOCK_HERTZ} Hz"
+    )?;
     let tenths = (clocks as u64).saturating_mul(10000) / CLOCK_HERTZ;
     let whole = tenths / 10;
     let tenth = tenths % 10;
-    println!(rt, "Drawn:   {characters} characters, {clocks} clocks, {whole}.{tenth} ms on the line")?;
+    println!(
+        rt,
+        "Drawn:   {characters} characters, {clocks} clocks, {whole}.{tenth} ms on the line"
+    )?;
     println!(rt, "")?;
     let Some(first) = record.bytes().next() else {
         return Ok(());
     };
     let shown = readable(u16::from(first));
-    println!(rt, "The first character, '{shown}' ({first:02X}h), level by level:")?;
+    println!(
+        rt,
+        "The first character, '{shown}' ({first:02X}h), level by level:"
+    )?;
     if characters > 0 {
         print_runs(rt, &picture[0..clocks / characters])?;
     }
@@ -117,18 +126,31 @@ fn print_sent(rt: &LibcRuntime, record: &str, picture: &[u8]) -> Result<(), AnyE
 }
 
 // Takes the stop bit of one character away, and holds the line at space for the length of two others.
-fn spoil_two_places(rt: &LibcRuntime, timing: &Timing, picture: &mut [u8], clocks: usize) -> Result<(), AnyError> {
+fn spoil_two_places(
+    rt: &LibcRuntime,
+    timing: &Timing,
+    picture: &mut [u8],
+    clocks: usize,
+) -> Result<(), AnyError> {
     let characters = picture.len() / clocks.max(1);
     let one = characters / 3;
     let stop = one.saturating_add(1).saturating_mul(clocks);
     let stop_begin = stop.saturating_sub(timing.lengths[9] as usize);
     hold_space(picture, stop_begin, stop);
-    println!(rt, "Spoiled: clocks {stop_begin} to {stop} held at space, the stop bit of character {}", one.saturating_add(1))?;
+    println!(
+        rt,
+        "Spoiled: clocks {stop_begin} to {stop} held at space, the stop bit of character {}",
+        one.saturating_add(1)
+    )?;
     let two = characters / 3 * 2;
     let from = two.saturating_mul(clocks);
     let to = from.saturating_add(clocks.saturating_mul(2));
     hold_space(picture, from, to);
-    println!(rt, "         clocks {from} to {to} held at space, two characters from {}", two.saturating_add(1))?;
+    println!(
+        rt,
+        "         clocks {from} to {to} held at space, two characters from {}",
+        two.saturating_add(1)
+    )?;
     println!(rt, "")?;
     Ok(())
 }

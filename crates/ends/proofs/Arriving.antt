@@ -82,26 +82,26 @@ module _ (s : SenderState) (oks : SoundSender s) (r : ReceiverState) (okr : Soun
   -- each sample is of the bit that is held
   level-is : (n k : ℕ) → Taking r n k → level n ≡ getD bits k Mark
   level-is n k t =
-    let i = inside k (t .bit) in
-    let next : start-of (s .lengths) (k + 1) ≡ start-of (s .lengths) (suc k) = ap (λ (x : ℕ). start-of (s .lengths) x) (one-more k) in
-    level-at k (s .lengths) (frame (s .format) c) n Mark (omega (arith, t .bit, many)) fits (omega (arith, i .0, t .begun)) (omega (arith, i .1, t .unended, next))
-    ∙ frame-through (s .format) c k Mark (omega (arith, t .bit, same-stop))
-    ∙ ap (λ (l : List Level). getD l k Mark) (agree-through (s .format) (r .format) c agree)
+      let i = inside k (t .bit) in
+      let next : start-of (s .lengths) (k + 1) ≡ start-of (s .lengths) (suc k) = ap (λ (x : ℕ). start-of (s .lengths) x) (one-more k) in
+      level-at k (s .lengths) (frame (s .format) c) n Mark (omega (arith, t .bit, many)) fits (omega (arith, i .0, t .begun)) (omega (arith, i .1, t .unended, next))
+      ∙ frame-through (s .format) c k Mark (omega (arith, t .bit, same-stop))
+      ∙ ap (λ (l : List Level). getD l k Mark) (agree-through (s .format) (r .format) c agree)
 
   -- from the last sample on the line is at mark
   stopped : (n : ℕ) → last ≤ n → level n ≡ Mark
   stopped n h =
-    let i = inside (first-stop (r .format)) (omega arith) in
-    let f : ℕ = first-stop (r .format) in
-    let three : first-sample r f ≤ third-sample r f = sound-rising r okr (3 * f) (3 * f + 2) (omega arith) (omega (arith, okr .all-samples)) in
-    marks-from f (s .lengths) (frame (s .format) c) (stop-count (s .format .stops)) n
+      let i = inside (first-stop (r .format)) (omega arith) in
+      let f : ℕ = first-stop (r .format) in
+      let three : first-sample r f ≤ third-sample r f = sound-rising r okr (3 * f) (3 * f + 2) (omega arith) (omega (arith, okr .all-samples)) in
+      marks-from f (s .lengths) (frame (s .format) c) (stop-count (s .format .stops)) n
       (ap (λ (x : ℕ). drop x (frame (s .format) c)) (sym same-stop) ∙ frame-stops (s .format) c) (omega (arith, i .0, three, h))
 
   long : last < length (frame-levels s c)
   long =
-    let f : ℕ = first-stop (r .format) in
-    let i = inside f (omega arith) in
-    omega (arith, i .1, held-length (s .lengths) (frame (s .format) c), sum-mono (f + 1) (length (frame (s .format) c)) (s .lengths) (omega (arith, many)))
+      let f : ℕ = first-stop (r .format) in
+      let i = inside f (omega arith) in
+      omega (arith, i .1, held-length (s .lengths) (frame (s .format) c), sum-mono (f + 1) (length (frame (s .format) c)) (s .lengths) (omega (arith, many)))
 
   -- the samples taken before clock n
   pub record Before (n : ℕ) (xs : List Level) : Type 0 where
@@ -112,8 +112,9 @@ module _ (s : SenderState) (oks : SoundSender s) (r : ReceiverState) (okr : Soun
   after n xs b = record {
     taken = taken-more r okr n xs bits (level n) (b .taken) (b .amount) (level-is n);
     amount =
-      let x : ℕ = falling-on n (r .samples) in
-      omega (arith, b .amount, length-append xs (replicate x (level n)), length-replicate x (level n), before-more n (r .samples)) }
+        let x : ℕ = falling-on n (r .samples) in
+        omega (arith, b .amount, length-append xs (replicate x (level n)), length-replicate x (level n), before-more n (r .samples));
+  }
 
   -- clock n of the frame, after which its other levels come, and then others
   abbrev heard-at : ℕ → List Level → Heard
@@ -122,51 +123,51 @@ module _ (s : SenderState) (oks : SoundSender s) (r : ReceiverState) (okr : Soun
   abbrev from-clock : ℕ → List Level → List Level → List Entry
   from-clock n xs rest = heard-at n xs .arrived ++ listens r (level n) (heard-at n xs .doing) (drop (suc n) (frame-levels s c) ++ rest)
 
-  ends : (n : ℕ) (xs rest : List Level) → n ≡ last → Before n xs → from-clock n xs rest ≡ (c , 0) ∷ listens r Mark idle rest
+  ends : (n : ℕ) (xs rest : List Level) → n ≡ last → Before n xs → from-clock n xs rest ≡ (c, 0) ∷ listens r Mark idle rest
   ends n xs rest e b =
-    let now : List Level = taken-now (r .samples) n xs (level n) in
-    let a = after n xs b in
-    let all : length now ≡ sample-count (r .format) = a .amount ∙ all-by-last r okr (suc n) (omega arith) in
-    let same : decided now ≡ bits = decided-all now bits (a .taken) (omega (arith, all, through-length (r .format) c)) in
-    let is : heard-at n xs ≡ record { doing = idle; arrived = (c , 0) ∷ [] } =
+      let now : List Level = taken-now (r .samples) n xs (level n) in
+      let a = after n xs b in
+      let all : length now ≡ sample-count (r .format) = a .amount ∙ all-by-last r okr (suc n) (omega arith) in
+      let same : decided now ≡ bits = decided-all now bits (a .taken) (omega (arith, all, through-length (r .format) c)) in
+      let is : heard-at n xs ≡ record { doing = idle; arrived = (c, 0) ∷ [] } =
       frame-over (r .format) n now all
       ∙ ap {B = Heard} (λ x. record { doing = after-frame x; arrived = x ∷ [] }) (ap (λ (l : List Level). entry-of (r .format) l) same ∙ entry-is (r .format) c narrow) in
-    ap {B = List Entry} (λ h. h .arrived ++ listens r (level n) (h .doing) (drop (suc n) (frame-levels s c) ++ rest)) is
-    ∙ ap {B = List Entry} (λ l. (c , 0) ∷ listens r l idle (drop (suc n) (frame-levels s c) ++ rest)) (stopped n (omega arith))
-    ∙ ap {B = List Entry} (λ es. (c , 0) ∷ es)
+      ap {B = List Entry} (λ h. h .arrived ++ listens r (level n) (h .doing) (drop (suc n) (frame-levels s c) ++ rest)) is
+      ∙ ap {B = List Entry} (λ l. (c, 0) ∷ listens r l idle (drop (suc n) (frame-levels s c) ++ rest)) (stopped n (omega arith))
+      ∙ ap {B = List Entry} (λ es. (c, 0) ∷ es)
       (marks-pass r (drop (suc n) (frame-levels s c)) rest (λ i. getD-drop (suc n) (frame-levels s c) i Mark ∙ stopped (suc n + i) (omega arith)))
 
   goes-on : (n : ℕ) (xs rest : List Level) → n < last → Before n xs → from-clock n xs rest ≡ from-clock (suc n) (taken-now (r .samples) n xs (level n)) rest
   goes-on n xs rest h b =
-    let now : List Level = taken-now (r .samples) n xs (level n) in
-    let a = after n xs b in
-    let few : length now < sample-count (r .format) = omega (arith, a .amount, not-all-before r okr (suc n) (omega arith)) in
-    let on : nothing (going-on (decided now) n now) ≡ nothing (framing n now) = ⊎-elim
+      let now : List Level = taken-now (r .samples) n xs (level n) in
+      let a = after n xs b in
+      let few : length now < sample-count (r .format) = omega (arith, a .amount, not-all-before r okr (suc n) (omega arith)) in
+      let on : nothing (going-on (decided now) n now) ≡ nothing (framing n now) = ⊎-elim
       (λ (z : decided now ≡ []). ap {B = Heard} (λ l. nothing (going-on l n now)) z)
       (λ (z : (others : List Level) × (decided now ≡ getD bits 0 Mark ∷ others)). ap {B = Heard} (λ l. nothing (going-on l n now)) (z .1))
       (decided-first now bits (a .taken)) in
-    ap {B = List Entry} (λ g. g .arrived ++ listens r (level n) (g .doing) (drop (suc n) (frame-levels s c) ++ rest)) (frame-unended (r .format) n now few ∙ on)
-    ∙ ap {B = List Entry} (λ l. listens r (level n) (framing n now) (l ++ rest)) (drop-cons (frame-levels s c) (suc n) Mark (omega (arith, h, long)))
-    ∙ ap {B = List Entry} (λ k. at-clock k now) (one-more n)
+      ap {B = List Entry} (λ g. g .arrived ++ listens r (level n) (g .doing) (drop (suc n) (frame-levels s c) ++ rest)) (frame-unended (r .format) n now few ∙ on)
+      ∙ ap {B = List Entry} (λ l. listens r (level n) (framing n now) (l ++ rest)) (drop-cons (frame-levels s c) (suc n) Mark (omega (arith, h, long)))
+      ∙ ap {B = List Entry} (λ k. at-clock k now) (one-more n)
     where
-    at-clock : ℕ → List Level → List Entry
-    at-clock k now =
-      let g : Heard = in-frame (r .format) k (taken-now (r .samples) k now (level (suc n))) in
-      g .arrived ++ listens r (level (suc n)) (g .doing) (drop (suc (suc n)) (frame-levels s c) ++ rest)
+      at-clock : ℕ → List Level → List Entry
+      at-clock k now =
+          let g : Heard = in-frame (r .format) k (taken-now (r .samples) k now (level (suc n))) in
+          g .arrived ++ listens r (level (suc n)) (g .doing) (drop (suc (suc n)) (frame-levels s c) ++ rest)
 
-  arrives : (m n : ℕ) (xs rest : List Level) → n + m ≡ last → Before n xs → from-clock n xs rest ≡ (c , 0) ∷ listens r Mark idle rest
+  arrives : (m n : ℕ) (xs rest : List Level) → n + m ≡ last → Before n xs → from-clock n xs rest ≡ (c, 0) ∷ listens r Mark idle rest
   arrives zero n xs rest e b = ends n xs rest (omega arith) b
   arrives (suc m) n xs rest e b = goes-on n xs rest (omega arith) b ∙ arrives m (suc n) (taken-now (r .samples) n xs (level n)) rest (omega arith) (after n xs b)
 
-  pub frame-arrives : (rest : List Level) → listens r Mark idle (frame-levels s c ++ rest) ≡ (c , 0) ∷ listens r Mark idle rest
+  pub frame-arrives : (rest : List Level) → listens r Mark idle (frame-levels s c ++ rest) ≡ (c, 0) ∷ listens r Mark idle rest
   frame-arrives rest =
-    let first : level 0 ≡ Space =
+      let first : level 0 ≡ Space =
       level-at 0 (s .lengths) (frame (s .format) c) 0 Mark (omega (arith, many)) fits (omega arith) (omega (arith, inside 0 (omega arith) .1)) in
-    ap {B = List Entry} (λ l. listens r Mark idle (l ++ rest)) (drop-cons (frame-levels s c) 0 Mark (omega (arith, long)))
-    ∙ ap {B = List Entry} (λ l. listens r Mark idle (l ∷ (drop 1 (frame-levels s c) ++ rest))) first
-    ∙ sym (ap {B = List Entry} (λ l. in-frame (r .format) 0 (taken-now (r .samples) 0 [] l) .arrived
+      ap {B = List Entry} (λ l. listens r Mark idle (l ++ rest)) (drop-cons (frame-levels s c) 0 Mark (omega (arith, long)))
+      ∙ ap {B = List Entry} (λ l. listens r Mark idle (l ∷ (drop 1 (frame-levels s c) ++ rest))) first
+      ∙ sym (ap {B = List Entry} (λ l. in-frame (r .format) 0 (taken-now (r .samples) 0 [] l) .arrived
       ++ listens r l (in-frame (r .format) 0 (taken-now (r .samples) 0 [] l) .doing) (drop 1 (frame-levels s c) ++ rest)) first)
-    ∙ arrives last 0 [] rest (omega arith) (record { taken = λ k j three h. absurd (not-suc-le-zero h); amount = sym (before-zero (r .samples)) })
+      ∙ arrives last 0 [] rest (omega arith) (record { taken = λ k j three h. absurd (not-suc-le-zero h); amount = sym (before-zero (r .samples)) })
 
 all-arrive : (s : SenderState) → SoundSender s → (r : ReceiverState) → SoundReceiver r → Agree (s .format) (r .format)
     → Inside (s .lengths) (r .samples) (first-stop (r .format))
@@ -176,7 +177,7 @@ all-arrive s oks r okr agree inside [] m narrow =
 all-arrive s oks r okr agree inside (x ∷ xs) m narrow =
     marks-pass r (replicate (x .marks) Mark) (frame-levels s (x .character) ++ transmission s xs m) (marks-only (x .marks))
     ∙ frame-arrives s oks r okr agree inside (x .character) (narrow .0) (transmission s xs m)
-    ∙ ap {B = List Entry} (λ es. (x .character , 0) ∷ es) (all-arrive s oks r okr agree inside xs m (narrow .1))
+    ∙ ap {B = List Entry} (λ es. (x .character, 0) ∷ es) (all-arrive s oks r okr agree inside xs m (narrow .1))
 
 -- a receiver at rest hears frames that are sampled inside their bits
 pub hears-all : (r : ReceiverState) → SoundReceiver r → r .previous ≡ Mark → r .doing ≡ idle → Hears r

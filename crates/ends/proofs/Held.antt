@@ -43,15 +43,16 @@ marks-held [] m j = refl
 marks-held (n ∷ ns) zero j = refl
 marks-held (n ∷ ns) (suc m) j = in-part (replicate n Mark) (held ns (replicate m Mark)) j (λ i. marks-in n i) (marks-held ns m)
   where
-  marks-in : (n i : ℕ) → getD (replicate n Mark) i Mark ≡ Mark
-  marks-in zero i = refl
-  marks-in (suc n) zero = refl
-  marks-in (suc n) (suc i) = marks-in n i
-  in-part : (xs ys : List Level) (j : ℕ) → ((i : ℕ) → getD xs i Mark ≡ Mark) → ((i : ℕ) → getD ys i Mark ≡ Mark)
-    → getD (xs ++ ys) j Mark ≡ Mark
-  in-part [] ys j f g = g j
-  in-part (x ∷ xs) ys zero f g = f zero
-  in-part (x ∷ xs) ys (suc j) f g = in-part xs ys j (λ i. f (suc i)) g
+    marks-in : (n i : ℕ) → getD (replicate n Mark) i Mark ≡ Mark
+    marks-in zero i = refl
+    marks-in (suc n) zero = refl
+    marks-in (suc n) (suc i) = marks-in n i
+
+    in-part : (xs ys : List Level) (j : ℕ) → ((i : ℕ) → getD xs i Mark ≡ Mark) → ((i : ℕ) → getD ys i Mark ≡ Mark)
+        → getD (xs ++ ys) j Mark ≡ Mark
+    in-part [] ys j f g = g j
+    in-part (x ∷ xs) ys zero f g = f zero
+    in-part (x ∷ xs) ys (suc j) f g = in-part xs ys j (λ i. f (suc i)) g
 
 pub marks-from : (k : ℕ) (ns : List ℕ) (bs : List Level) (m j : ℕ) → drop k bs ≡ replicate m Mark → sum (take k ns) ≤ j
     → getD (held ns bs) j Mark ≡ Mark

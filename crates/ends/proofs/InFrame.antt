@@ -38,7 +38,7 @@ pub over-by-digits : (f : Format) (n : ℕ) (ls : List Level) (e : Entry) (d : �
     → record { doing = after-frame e; arrived = e ∷ [] } ≡ in-frame f n ls
 over-by-digits f n ls e d all digits is =
     let bits : low-bits (1 + first-stop f) d ≡ decided ls =
-      ap {B = List Level} (λ m. low-bits m d) (sym (all-decided f ls all)) ∙ ap {B = List Level} (λ x. low-bits (length (decided ls)) x) digits ∙ low-number (decided ls) in
+    ap {B = List Level} (λ m. low-bits m d) (sym (all-decided f ls all)) ∙ ap {B = List Level} (λ x. low-bits (length (decided ls)) x) digits ∙ low-number (decided ls) in
     ap {B = Heard} (λ x. record { doing = after-frame x; arrived = x ∷ [] }) (is ∙ ap (λ (l : List Level). entry-of f l) bits) ∙ sym (frame-over f n ls all)
 
 -- a frame whose samples so far are at most the start bit's, all space, goes on
@@ -46,9 +46,9 @@ pub starts : (f : Format) (m : ℕ) → m ≤ 3 → in-frame f 0 (replicate m Sp
 starts f m h =
     frame-unended f 0 (replicate m Space) (omega (arith, h, length-replicate m Space, width-least f)) ∙ going m h
   where
-  going : (m : ℕ) → m ≤ 3 → nothing (going-on (decided (replicate m Space)) 0 (replicate m Space)) ≡ nothing (framing 0 (replicate m Space))
-  going zero h = refl
-  going (suc zero) h = refl
-  going (suc (suc zero)) h = refl
-  going (suc (suc (suc zero))) h = refl
-  going (suc (suc (suc (suc m)))) h = absurd (omega arith)
+    going : (m : ℕ) → m ≤ 3 → nothing (going-on (decided (replicate m Space)) 0 (replicate m Space)) ≡ nothing (framing 0 (replicate m Space))
+    going zero h = refl
+    going (suc zero) h = refl
+    going (suc (suc zero)) h = refl
+    going (suc (suc (suc zero))) h = refl
+    going (suc (suc (suc (suc m)))) h = absurd (omega arith)

@@ -19,9 +19,9 @@ use Rattle.ends.proofs.Arriving.{taken-by-parts}
 in-frame-few : (f : Format) (n : ℕ) (ls : List Level) → length (in-frame f n ls .arrived) ≤ 1
 in-frame-few f n ls = go (leb (1 + first-stop f) (length (decided ls)))
   where
-  go : (b : Bool) → length (cond b (record { doing = after-frame (entry-of f (decided ls)); arrived = entry-of f (decided ls) ∷ [] }) (nothing (going-on (decided ls) n ls)) .arrived) ≤ 1
-  go true = omega arith
-  go false = omega arith
+    go : (b : Bool) → length (cond b (record { doing = after-frame (entry-of f (decided ls)); arrived = entry-of f (decided ls) ∷ [] }) (nothing (going-on (decided ls) n ls)) .arrived) ≤ 1
+    go true = omega arith
+    go false = omega arith
 
 -- a clock brings one entry at most
 few : (r : ReceiverState) (p : Level) (d : Doing) (l : Level) → length (heard r p d l .arrived) ≤ 1
@@ -33,9 +33,9 @@ few r p (counting n) Mark = omega arith
 few r Mark (counting n) Space = in-frame-few (r .format) 0 (taken-now (r .samples) 0 [] Space)
 few r Space (counting n) Space = go (leb (r .break-length) (n + 1))
   where
-  go : (b : Bool) → length (cond b (record { doing = idle; arrived = (0 , 8) ∷ [] }) (nothing (counting (n + 1))) .arrived) ≤ 1
-  go true = omega arith
-  go false = omega arith
+    go : (b : Bool) → length (cond b (record { doing = idle; arrived = (0, 8) ∷ [] }) (nothing (counting (n + 1))) .arrived) ≤ 1
+    go true = omega arith
+    go false = omega arith
 
 -- what becomes of at most one entry
 record One (room : ℕ) (es : List Entry) : Type 0 where
@@ -64,7 +64,7 @@ module _ (r : ReceiverState) (none : r .unread ≡ []) (l : Level) where
 
   -- what a clock and a read answer, and what comes after
   pub read-now : (ls : List Level)
-    → taken-down r (l ∷ ls) ≡ listOf (okPart (oldest (after-clock r l .unread))) ++ taken-down (after-read (after-clock r l)) ls
+      → taken-down r (l ∷ ls) ≡ listOf (okPart (oldest (after-clock r l .unread))) ++ taken-down (after-read (after-clock r l)) ls
   read-now ls = ap₂ {C = List Entry} (λ es fs. es ++ fs)
-    (sym (ap (λ (es : List Entry). listOf (okPart (oldest es))) unread-now ∙ is-one .answered))
-    (sym (unread-apart (after-clock r l) (without-oldest (after-clock r l .unread)) ls))
+      (sym (ap (λ (es : List Entry). listOf (okPart (oldest es))) unread-now ∙ is-one .answered))
+      (sym (unread-apart (after-clock r l) (without-oldest (after-clock r l .unread)) ls))

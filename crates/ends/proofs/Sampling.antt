@@ -124,9 +124,9 @@ taken-rest a b c ls x bits t k j three h =
 majority-same : (a b c x : Level) → a ≡ x → b ≡ x → c ≡ x → majority a b c ≡ x
 majority-same a b c x p q s = ap₂ (λ (y z : Level). majority y z c) p q ∙ ap (λ (z : Level). majority x x z) s ∙ self x
   where
-  self : (x : Level) → majority x x x ≡ x
-  self Space = refl
-  self Mark = refl
+    self : (x : Level) → majority x x x ≡ x
+    self Space = refl
+    self Mark = refl
 
 majority-taken : (a b c : Level) (ls bits : List Level) → Taken (a ∷ (b ∷ (c ∷ ls))) bits → majority a b c ≡ getD bits 0 Mark
 majority-taken a b c ls bits t =
@@ -153,7 +153,7 @@ decided-first [] bits t = inl refl
 decided-first (a ∷ []) bits t = inl refl
 decided-first (a ∷ (b ∷ [])) bits t = inl refl
 decided-first (a ∷ (b ∷ (c ∷ ls))) bits t =
-    inr (decided ls , ap {B = List Level} (λ y. y ∷ decided ls) (majority-taken a b c ls bits t))
+    inr (decided ls, ap {B = List Level} (λ y. y ∷ decided ls) (majority-taken a b c ls bits t))
 
 pub taken-more : (r : ReceiverState) → SoundReceiver r → (n : ℕ) (ls bits : List Level) (l : Level) → Taken ls bits → length ls ≡ falling-before n (r .samples)
     → ((k : ℕ) → Taking r n k → l ≡ getD bits k Mark)
@@ -165,9 +165,9 @@ taken-more r ok n ls bits l t e reads k j three h =
     let y : length (replicate x l) ≡ x = length-replicate x l in
     ⊎-elim (λ (old : 3 * k + j < length ls). getD-append-left ls (replicate x l) Mark (3 * k + j) old ∙ t k j three old)
     (λ (new : length ls ≤ 3 * k + j).
-      getD-append-right ls (replicate x l) (length ls) (3 * k + j) Mark refl new
-      ∙ getD-replicate x (3 * k + j - length ls) l Mark (omega arith)
-      ∙ reads k (taking r ok n k j three (omega arith) (omega arith)))
+    getD-append-right ls (replicate x l) (length ls) (3 * k + j) Mark refl new
+    ∙ getD-replicate x (3 * k + j - length ls) l Mark (omega arith)
+    ∙ reads k (taking r ok n k j three (omega arith) (omega arith)))
     (cases-lt (3 * k + j) (length ls))
 
 -- the samples of a timing are those of its table that the format uses
@@ -214,12 +214,12 @@ pub on-after-before : (n : ℕ) (ss : List ℕ) → Rising ss → falling-on n (
 on-after-before n [] up = refl
 on-after-before n (s ∷ ss) up = ⊎-elim
     (λ (l : s < n).
-      let k : falling-before n (s ∷ ss) ≡ suc (falling-before n ss) = grind (arith, tells) in
-      let e : falling-on n (s ∷ ss) ≡ falling-on n ss = grind (arith, tells) in
-      ap (λ (m : ℕ). falling-on n (drop m (s ∷ ss))) k ∙ on-after-before n ss (rising-rest s ss up) ∙ sym e)
+    let k : falling-before n (s ∷ ss) ≡ suc (falling-before n ss) = grind (arith, tells) in
+    let e : falling-on n (s ∷ ss) ≡ falling-on n ss = grind (arith, tells) in
+    ap (λ (m : ℕ). falling-on n (drop m (s ∷ ss))) k ∙ on-after-before n ss (rising-rest s ss up) ∙ sym e)
     (λ (g : n ≤ s).
-      let z : falling-before n (s ∷ ss) ≡ 0 = none-before n (s ∷ ss) (λ i h. omega (arith, up 0 i (omega arith) h)) in
-      ap (λ (m : ℕ). falling-on n (drop m (s ∷ ss))) z)
+    let z : falling-before n (s ∷ ss) ≡ 0 = none-before n (s ∷ ss) (λ i h. omega (arith, up 0 i (omega arith) h)) in
+    ap (λ (m : ℕ). falling-on n (drop m (s ∷ ss))) z)
     (cases-lt s n)
 
 -- one more sample falls on the clock
@@ -227,8 +227,8 @@ pub one-on : (n : ℕ) (ss : List ℕ) (i : ℕ) → i < length ss → getD ss i
 one-on n ss i h e =
     ap (falling-on n) (drop-more ss i 0 h) ∙ here (getD ss i 0) e
   where
-  here : (s : ℕ) → s ≡ n → falling-on n (s ∷ drop (i + 1) ss) ≡ suc (falling-on n (drop (i + 1) ss))
-  here s e = grind (arith, tells)
+    here : (s : ℕ) → s ≡ n → falling-on n (s ∷ drop (i + 1) ss) ≡ suc (falling-on n (drop (i + 1) ss))
+    here s e = grind (arith, tells)
 
 pub taken-length : (s : Samples) → length (taken s) ≡ s .count
 taken-length s = length-take-le (s .count) (s .levels) (omega (arith, s .few, s .places))
@@ -240,9 +240,9 @@ decided-from ls k h =
     let three : 3 * k + 1 + 1 + 1 ≡ 3 * (k + 1) = omega arith in
     let second : 3 * k + 1 + 1 ≡ 3 * k + 2 = omega arith in
     ap decided (drop-more ls (3 * k) Space (omega arith)
-      ∙ ap {B = List Level} (λ l. getD ls (3 * k) Space ∷ l) (drop-more ls (3 * k + 1) Space (omega arith)
-        ∙ ap {B = List Level} (λ l. getD ls (3 * k + 1) Space ∷ l) (drop-more ls (3 * k + 1 + 1) Space (omega arith)
-          ∙ ap₂ {C = List Level} (λ i j. getD ls i Space ∷ drop j ls) second three)))
+    ∙ ap {B = List Level} (λ l. getD ls (3 * k) Space ∷ l) (drop-more ls (3 * k + 1) Space (omega arith)
+    ∙ ap {B = List Level} (λ l. getD ls (3 * k + 1) Space ∷ l) (drop-more ls (3 * k + 1 + 1) Space (omega arith)
+    ∙ ap₂ {C = List Level} (λ i j. getD ls i Space ∷ drop j ls) second three)))
 
 -- one bit more of them, by what a receiver holds
 pub decided-more : (s : Samples) (k : ℕ) (b : Level) → 3 * k + 2 < s .count
@@ -252,9 +252,9 @@ decided-more s k b h e =
     let at : (i : ℕ) → i < s .count → getD (taken s) i Space ≡ getD (s .levels) i Space = λ i l. getD-take (s .count) (s .levels) i Space l in
     decided-from (taken s) k (omega (arith, h, taken-length s))
     ∙ ap {B = List Level} (λ x. x ∷ decided (drop (3 * (k + 1)) (taken s)))
-      (ap₂ (λ (x y : Level). majority x y (getD (taken s) (3 * k + 2) Space)) (at (3 * k) (omega arith)) (at (3 * k + 1) (omega arith))
-        ∙ ap (λ (z : Level). majority (getD (s .levels) (3 * k) Space) (getD (s .levels) (3 * k + 1) Space) z) (at (3 * k + 2) (omega arith))
-        ∙ sym e)
+    (ap₂ (λ (x y : Level). majority x y (getD (taken s) (3 * k + 2) Space)) (at (3 * k) (omega arith)) (at (3 * k + 1) (omega arith))
+    ∙ ap (λ (z : Level). majority (getD (s .levels) (3 * k) Space) (getD (s .levels) (3 * k + 1) Space) z) (at (3 * k + 2) (omega arith))
+    ∙ sym e)
 
 -- after a clock, those that fall up to it have been taken
 pub in-step : (t : Timing) (s u : Samples) (n : ℕ) (l : Level) → s .count ≡ falling-before n (sample-clocks t)
@@ -264,8 +264,8 @@ in-step t s u n l before is =
     let next : falling-before (suc n) (sample-clocks t) ≡ falling-before (n + 1) (sample-clocks t) = ap (λ (x : ℕ). falling-before x (sample-clocks t)) (one n) in
     omega (arith, before, ap length is, length-append (taken s) (replicate on l), length-replicate on l, taken-length s, taken-length u, before-more n (sample-clocks t), next)
   where
-  one : (n : ℕ) → suc n ≡ n + 1
-  one n = omega arith
+    one : (n : ℕ) → suc n ≡ n + 1
+    one n = omega arith
 
 pub not-past : (t : Timing) (s : Samples) (n : ℕ) → s .count ≡ falling-before n (sample-clocks t) → s .count ≤ t .«sample_count»
 not-past t s n e = omega (arith, e, before-most n (sample-clocks t), clocks-length t)
@@ -279,8 +279,8 @@ clock-early t s n e h =
 pub few-at-first : (t : Timing) → falling-before 1 (sample-clocks t) ≤ 3
 few-at-first t = ⊎-elim
     (λ (more : 3 < falling-before 1 (sample-clocks t)).
-      let within : 3 < t .«sample_count» = omega (arith, t .counted) in
-      absurd (omega (arith, under-clock 1 (sample-clocks t) (clocks-rising t) 3 more, clock-at t 3 within, t .apart 0 (omega arith))))
+    let within : 3 < t .«sample_count» = omega (arith, t .counted) in
+    absurd (omega (arith, under-clock 1 (sample-clocks t) (clocks-rising t) 3 more, clock-at t 3 within, t .apart 0 (omega arith))))
     (λ (few : falling-before 1 (sample-clocks t) ≤ 3). few)
     (cases-lt 3 (falling-before 1 (sample-clocks t)))
 
@@ -302,4 +302,5 @@ sound-bare t us p d = record {
   apart = clocks-apart t;
   early = clocks-early t;
   breaks = t .breaks;
-  room = omega arith }
+  room = omega arith;
+}

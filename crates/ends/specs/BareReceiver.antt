@@ -22,14 +22,26 @@ doing-of (Counting spaces) ls = counting spaces
 
 abbrev pub meant : BareReceiver → ReceiverState
 meant r = record {
-  format = r .timing .format; samples = sample-clocks (r .timing); break-length = r .timing .«break_length»; capacity = 1;
-  unread = listOf (r .unread); previous = r .previous; doing = doing-of (r .doing) (taken (r .samples)) }
+  format = r .timing .format;
+  samples = sample-clocks (r .timing);
+  break-length = r .timing .«break_length»;
+  capacity = 1;
+  unread = listOf (r .unread);
+  previous = r .previous;
+  doing = doing-of (r .doing) (taken (r .samples));
+}
 
 -- a bare receiver with these times that has heard nothing
 abbrev pub resting : Times → ReceiverState
 resting t = record {
-  format = t .format; samples = t .samples; break-length = t .break-length; capacity = 1;
-  unread = []; previous = Mark; doing = idle }
+  format = t .format;
+  samples = t .samples;
+  break-length = t .break-length;
+  capacity = 1;
+  unread = [];
+  previous = Mark;
+  doing = idle;
+}
 
 abbrev pub at-rest : Timing → ReceiverState
 at-rest t = resting (times-of t)
@@ -38,4 +50,4 @@ at-rest t = resting (times-of t)
 abbrev pub heard-of : Progress → ℕ → List Level → Heard
 heard-of GoesOn n ls = nothing (framing n ls)
 heard-of FalseStart n ls = nothing idle
-heard-of (Over c flags) n ls = record { doing = after-frame (c , flags); arrived = (c , flags) ∷ [] }
+heard-of (Over c flags) n ls = record { doing = after-frame (c, flags); arrived = (c, flags) ∷ [] }

@@ -8,8 +8,12 @@ use Rattle.ends.specs.Sender.{SenderState}
 
 abbrev pub meant : BareSender → SenderState
 meant s = record {
-  format = s .timing .format; lengths = s .timing .lengths; capacity = 1;
-  left = left-of (s .timing .format) (s .timing .lengths) (s .shift); waiting = listOf (s .waiting) }
+  format = s .timing .format;
+  lengths = s .timing .lengths;
+  capacity = 1;
+  left = left-of (s .timing .format) (s .timing .lengths) (s .shift);
+  waiting = listOf (s .waiting);
+}
 
 -- a bare sender with these times that has nothing to send
 abbrev pub at-rest : Timing → SenderState

@@ -102,19 +102,25 @@ abbrev pub entry-of : Format → List Level → Entry
 entry-of f bs =
     let body : List Level = take (width f) (drop 1 bs) in
     let check : List Level = take (first-stop f - (1 + width f)) (drop (1 + width f) bs) in
-    (number body , cond (same-levels check (parity-bits (f .parity) body)) 0 2 + framing-flag (drop (first-stop f) bs))
+    (number body, cond (same-levels check (parity-bits (f .parity) body)) 0 2 + framing-flag (drop (first-stop f) bs))
 
 -- an entry joins the unread ones; where they fill the capacity it takes the place of the newest, with that one's flags and the overrun flag as well
 abbrev pub joined : ℕ → List Entry → Entry → List Entry
 joined room [] e = e ∷ []
-joined room (u ∷ []) e = cond (leb room 1) ((e .0 , bitOr (bitOr (e .1) (u .1)) 1) ∷ []) (u ∷ (e ∷ []))
+joined room (u ∷ []) e = cond (leb room 1) ((e .0, bitOr (bitOr (e .1) (u .1)) 1) ∷ []) (u ∷ (e ∷ []))
 joined room (u ∷ (v ∷ us)) e = u ∷ joined (pred room) (v ∷ us) e
 
 -- the receiver with other unread entries, another previous level and something else to do
 abbrev pub with : ReceiverState → List Entry → Level → Doing → ReceiverState
 with r us l d = record {
-  format = r .format; samples = r .samples; break-length = r .break-length; capacity = r .capacity;
-  unread = us; previous = l; doing = d }
+  format = r .format;
+  samples = r .samples;
+  break-length = r .break-length;
+  capacity = r .capacity;
+  unread = us;
+  previous = l;
+  doing = d;
+}
 
 -- what a clock comes to: what is done next, and the entry that arrives, if one does
 pub record Heard : Type 0 where
@@ -154,7 +160,7 @@ heard r p (framing n ls) l = in-frame (r .format) (n + 1) (taken-now (r .samples
 heard r p (counting n) Mark = nothing idle
 heard r Mark (counting n) Space = in-frame (r .format) 0 (taken-now (r .samples) 0 [] Space)
 heard r Space (counting n) Space =
-    cond (leb (r .break-length) (n + 1)) (record { doing = idle; arrived = (0 , 8) ∷ [] }) (nothing (counting (n + 1)))
+    cond (leb (r .break-length) (n + 1)) (record { doing = idle; arrived = (0, 8) ∷ [] }) (nothing (counting (n + 1)))
 
 abbrev pub hears : ReceiverState → Level → Heard
 hears r l = heard r (r .previous) (r .doing) l

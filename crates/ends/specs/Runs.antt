@@ -60,7 +60,7 @@ AllNarrow f (x ∷ xs) = (x .character < 2 ^ width f) × AllNarrow f xs
 -- the entries of the characters, with no flag
 abbrev pub clean : List Sent → List Entry
 clean [] = []
-clean (x ∷ xs) = (x .character , 0) ∷ clean xs
+clean (x ∷ xs) = (x .character, 0) ∷ clean xs
 
 -- Frames that are held for their lengths and sampled inside their bits arrive as their characters, with no flag; and of a line that
 -- stays at mark nothing arrives.

@@ -23,15 +23,21 @@ use line::Refusal;
 
 // The flags of an entry.
 pub const OVERRUN: u8 = 1;
+
 pub const PARITY: u8 = 2;
+
 pub const FRAMING: u8 = 4;
+
 pub const BREAK: u8 = 8;
 
 impl Samples {
     fn none() -> Samples
         ensures { λ r. ⌜ r .count ≡ 0 ⌝ }
     {
-        Samples { levels: [Level::Space; 36], count: 0 }
+        Samples {
+            levels: [Level::Space; 36],
+            count: 0,
+        }
     }
 
     fn push(&mut self, level: Level)
@@ -58,7 +64,11 @@ impl Samples {
         requires { ⌜ 3 * k + 2 < now self .count ⌝ }
         ensures { λ r. ⌜ r ≡ majority (getD (now (self .entry) .levels) (3 * k) Space) (getD (now (self .entry) .levels) (3 * k + 1) Space) (getD (now (self .entry) .levels) (3 * k + 2) Space) ⌝ }
     {
-        majority(self.levels[3 * k], self.levels[3 * k + 1], self.levels[3 * k + 2])
+        majority(
+            self.levels[3 * k],
+            self.levels[3 * k + 1],
+            self.levels[3 * k + 2],
+        )
     }
 
     // The bits decided, as binary digits, the start bit being the least significant.
@@ -132,14 +142,22 @@ fn entry(format: Format, digits: u16) -> (u16, u8)
     let parities = format.parity_values();
     let character = digits / 2 % characters;
     let above = digits / 2 / characters;
-    let parity = if above % parities == format.parity_bit(character) { 0 } else { PARITY };
-    let framing = if above / parities % 2 == 1 { 0 } else { FRAMING };
+    let parity = if above % parities == format.parity_bit(character) {
+        0
+    } else {
+        PARITY
+    };
+    let framing = if above / parities % 2 == 1 {
+        0
+    } else {
+        FRAMING
+    };
     (character, parity + framing)
 }
 
 // The unread entry after this one has arrived: one that was never read leaves its flags.
 fn arrived(unread: Option<(u16, u8)>, character: u16, flags: u8) -> (u16, u8)
-    ensures { λ r. ⌜ r ∷ [] ≡ joined 1 (listOf unread) (character , flags) ⌝ }
+    ensures { λ r. ⌜ r ∷ [] ≡ joined 1 (listOf unread) (character, flags) ⌝ }
 {
     match unread {
         None => (character, flags),
@@ -151,7 +169,13 @@ impl BareReceiver {
     pub fn new(timing: Timing) -> BareReceiver
         ensures { λ r. ⌜ meant r ≡ at-rest timing ⌝ }
     {
-        BareReceiver { timing, unread: None, previous: Level::Mark, doing: Doing::Idle, samples: Samples::none() }
+        BareReceiver {
+            timing,
+            unread: None,
+            previous: Level::Mark,
+            doing: Doing::Idle,
+            samples: Samples::none(),
+        }
     }
 }
 
@@ -163,7 +187,11 @@ pub impl Receiver for BareReceiver as BareReceiving {
     }
 
     fn sample_clock(&self, sample: usize) -> u32 {
-        if sample < self.timing.sample_count { self.timing.samples[sample] } else { 0 }
+        if sample < self.timing.sample_count {
+            self.timing.samples[sample]
+        } else {
+            0
+        }
     }
 
     fn clock(&mut self, level: Level) {
@@ -181,7 +209,11 @@ pub impl Receiver for BareReceiver as BareReceiving {
                     Progress::GoesOn => {}
                     Progress::FalseStart => self.doing = Doing::Idle,
                     Progress::Over(character, flags) => {
-                        self.doing = if flags < FRAMING { Doing::Idle } else { Doing::Counting { spaces: 0 } };
+                        self.doing = if flags < FRAMING {
+                            Doing::Idle
+                        } else {
+                            Doing::Counting { spaces: 0 }
+                        };
                         self.unread = Some(arrived(self.unread, character, flags));
                     }
                 }

@@ -16,19 +16,30 @@ use line::Format;
 use line::Level;
 use line::Refusal;
 
+// No frame has more bits.
+const MOST_BITS: usize = 13;
+
 impl Shift {
     fn begin(timing: &Timing, character: u16) -> Shift
         ensures levels { λ r. ⌜ shift-levels (now (timing .entry) .format) (now (timing .entry) .lengths) r ≡ held (now (timing .entry) .lengths) (frame (now (timing .entry) .format) character) ⌝ }
         ensures bit { λ r. ⌜ r .bit ≡ 0 ⌝ }
         ensures clocks { λ r. ⌜ 0 < r .clocks ⌝ }
     {
-        Shift { digits: timing.format.frame(character), bit: 0, clocks: timing.lengths[0] }
+        Shift {
+            digits: timing.format.frame(character),
+            bit: 0,
+            clocks: timing.lengths[0],
+        }
     }
 
     fn level(self) -> Level
         ensures { λ r. ⌜ r ≡ level-of (self .digits % 2) ⌝ }
     {
-        if self.digits % 2 == 0 { Level::Space } else { Level::Mark }
+        if self.digits % 2 == 0 {
+            Level::Space
+        } else {
+            Level::Mark
+        }
     }
 
     // What is left after this clock.
@@ -39,13 +50,20 @@ impl Shift {
         ensures clocks { λ r. ⌜ 0 < clocks-of r ⌝ }
     {
         if self.clocks > 1 {
-            return Some(Shift { clocks: self.clocks - 1, ..self });
+            return Some(Shift {
+                clocks: self.clocks - 1,
+                ..self
+            });
         }
         let next = self.bit + 1;
         if next == timing.format.bits() {
             return None;
         }
-        Some(Shift { digits: self.digits / 2, bit: next, clocks: timing.lengths[next] })
+        Some(Shift {
+            digits: self.digits / 2,
+            bit: next,
+            clocks: timing.lengths[next],
+        })
     }
 }
 
@@ -53,7 +71,11 @@ impl BareSender {
     pub fn new(timing: Timing) -> BareSender
         ensures { λ r. ⌜ meant r ≡ at-rest timing ⌝ }
     {
-        BareSender { timing, shift: None, waiting: None }
+        BareSender {
+            timing,
+            shift: None,
+            waiting: None,
+        }
     }
 
     // Where nothing is left on the line, the character that waits moves into the shift register.
@@ -78,7 +100,11 @@ pub impl Sender for BareSender as BareSending {
     }
 
     fn bit_length(&self, bit: usize) -> u32 {
-        if bit < 13 { self.timing.lengths[bit] } else { 0 }
+        if bit < MOST_BITS {
+            self.timing.lengths[bit]
+        } else {
+            0
+        }
     }
 
     fn load(&mut self, character: u16) -> Result<(), Refusal> {

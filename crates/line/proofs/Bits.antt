@@ -47,18 +47,18 @@ frame-length f c =
 pub width-most : (f : Format) → width f ≤ 9
 width-most f = go (f .size) (f .address)
   where
-  go : (d : DataBits) (a : Bool) → data-count d + cond a 1 0 ≤ 9
-  go Seven true = omega arith
-  go Seven false = omega arith
-  go Eight true = omega arith
-  go Eight false = omega arith
+    go : (d : DataBits) (a : Bool) → data-count d + cond a 1 0 ≤ 9
+    go Seven true = omega arith
+    go Seven false = omega arith
+    go Eight true = omega arith
+    go Eight false = omega arith
 
 pub width-least : (f : Format) → 7 ≤ width f
 width-least f = go (f .size)
   where
-  go : (d : DataBits) → 7 ≤ data-count d + cond (f .address) 1 0
-  go Seven = omega arith
-  go Eight = omega arith
+    go : (d : DataBits) → 7 ≤ data-count d + cond (f .address) 1 0
+    go Seven = omega arith
+    go Eight = omega arith
 
 pub parity-most : (p : Parity) → parity-count p ≤ 1
 parity-most Absent = omega arith
@@ -98,12 +98,12 @@ frame-through f c k d h =
     ∙ same (front f c) (f .stops) k (omega (arith, front-length f c))
     ∙ ap (λ (l : List Level). getD l k d) (sym (through-front f c))
   where
-  same : (xs : List Level) (p : StopBits) (k : ℕ) → k ≤ length xs → getD (xs ++ replicate (stop-count p) Mark) k d ≡ getD (xs ++ (Mark ∷ [])) k d
-  same [] One zero h = refl
-  same [] Two zero h = refl
-  same [] p (suc k) h = absurd (not-suc-le-zero h)
-  same (x ∷ xs) p zero h = refl
-  same (x ∷ xs) p (suc k) h = same xs p k (le-of-suc-le-suc h)
+    same : (xs : List Level) (p : StopBits) (k : ℕ) → k ≤ length xs → getD (xs ++ replicate (stop-count p) Mark) k d ≡ getD (xs ++ (Mark ∷ [])) k d
+    same [] One zero h = refl
+    same [] Two zero h = refl
+    same [] p (suc k) h = absurd (not-suc-le-zero h)
+    same (x ∷ xs) p zero h = refl
+    same (x ∷ xs) p (suc k) h = same xs p k (le-of-suc-le-suc h)
 
 pub agree-first-stop : (f g : Format) → Agree f g → first-stop f ≡ first-stop g
 agree-first-stop f g a = cc
@@ -117,12 +117,12 @@ agree-through f g c a = cc
 -- the frame as binary digits: the character, the parity bit above it, the stop bits above that
 pub frame-number : (f : Format) (c : ℕ)
     → number (frame f c)
-      ≡ 2 * (c % 2 ^ width f + 2 ^ width f
-        * (number (parity-bits (f .parity) (low-bits (width f) c)) + 2 ^ parity-count (f .parity) * number (replicate (stop-count (f .stops)) Mark)))
+    ≡ 2 * (c % 2 ^ width f + 2 ^ width f
+    * (number (parity-bits (f .parity) (low-bits (width f) c)) + 2 ^ parity-count (f .parity) * number (replicate (stop-count (f .stops)) Mark)))
 frame-number f c =
     let bs : List Level = low-bits (width f) c in
     let ps : List Level = parity-bits (f .parity) bs in
     let ss : List Level = replicate (stop-count (f .stops)) Mark in
     ap (λ (n : ℕ). 2 * n) (number-append bs (ps ++ ss)
-      ∙ ap₂ (λ (n m : ℕ). n + 2 ^ m * number (ps ++ ss)) (number-low (width f) c) (low-length (width f) c)
-      ∙ ap (λ (n : ℕ). c % 2 ^ width f + 2 ^ width f * n) (number-append ps ss ∙ ap (λ (m : ℕ). number ps + 2 ^ m * number ss) (parity-length (f .parity) bs)))
+    ∙ ap₂ (λ (n m : ℕ). n + 2 ^ m * number (ps ++ ss)) (number-low (width f) c) (low-length (width f) c)
+    ∙ ap (λ (n : ℕ). c % 2 ^ width f + 2 ^ width f * n) (number-append ps ss ∙ ap (λ (m : ℕ). number ps + 2 ^ m * number ss) (parity-length (f .parity) bs)))

@@ -84,17 +84,18 @@ low-number (Mark ∷ bs) = let n : ℕ = number bs in
 pub drop-low : (k n c : ℕ) → drop k (low-bits (k + n) c) ≡ low-bits n (c / 2 ^ k)
 drop-low zero n c = ap₂ {C = List Level} (λ m d. low-bits m d) (plain n) (whole c)
   where
-  plain : (n : ℕ) → 0 + n ≡ n
-  plain n = omega arith
-  whole : (c : ℕ) → c ≡ c / 1
-  whole c = omega arith
+    plain : (n : ℕ) → 0 + n ≡ n
+    plain n = omega arith
+
+    whole : (c : ℕ) → c ≡ c / 1
+    whole c = omega arith
 drop-low (suc k) n c =
     let more : suc k + n ≡ suc (k + n) = omega arith in
     let halves : c / 2 / 2 ^ k ≡ c / 2 ^ suc k = shr-shr c 1 k ∙ ap (λ (m : ℕ). c / 2 ^ m) (one k) in
     ap {B = List Level} (λ m. drop (suc k) (low-bits m c)) more ∙ drop-low k n (c / 2) ∙ ap {B = List Level} (λ d. low-bits n d) halves
   where
-  one : (k : ℕ) → 1 + k ≡ suc k
-  one k = omega arith
+    one : (k : ℕ) → 1 + k ≡ suc k
+    one k = omega arith
 
 pub take-low : (k n c : ℕ) → take k (low-bits (k + n) c) ≡ low-bits k c
 take-low zero n c = refl

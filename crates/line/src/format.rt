@@ -39,7 +39,12 @@ pub struct Format {
 
 impl Format {
     // The format with so many data, address and stop bits, and parity 0 for none, 1 for odd, 2 for even.
-    pub fn from_numbers(data_bits: u8, address_bits: u8, parity: u8, stop_bits: u8) -> Result<Format, Refusal>
+    pub fn from_numbers(
+        data_bits: u8,
+        address_bits: u8,
+        parity: u8,
+        stop_bits: u8,
+    ) -> Result<Format, Refusal>
         ensures { λ r. ⌜ Cases r (λ f. Numbers f «data_bits» «address_bits» parity «stop_bits») (λ e. (e ≡ Refusal.OutOfRange) × ((f : Format) → Numbers f «data_bits» «address_bits» parity «stop_bits» → ⊥)) ⌝ }
     {
         let size = match data_bits {
@@ -63,7 +68,12 @@ impl Format {
             2 => StopBits::Two,
             _ => return Err(Refusal::OutOfRange),
         };
-        Ok(Format { size, address, parity, stops })
+        Ok(Format {
+            size,
+            address,
+            parity,
+            stops,
+        })
     }
 
     // How many bits a character has.

@@ -20,4 +20,5 @@ worked = record {
   parity-of-141 = refl;
   break-after-60 = refl;
   no-break-after-59 = refl;
-  false-start = refl }
+  false-start = refl;
+}

@@ -38,7 +38,7 @@ pub record Worked : Type 0 where
   pub lengths-at-6 : lengths 6 0x6f 8 ≡ 7 ∷ (7 ∷ (7 ∷ (7 ∷ (6 ∷ (7 ∷ (7 ∷ (6 ∷ [])))))))
   pub lengths-at-54 : lengths 54 0xd5 8 ≡ 55 ∷ (54 ∷ (55 ∷ (54 ∷ (55 ∷ (54 ∷ (55 ∷ (55 ∷ [])))))))
   pub frame-of-41 : sent-at (usart-times eight-n-one 6 0x6f) 0x41
-    ≡ replicate 7 Space ++ (replicate 7 Mark ++ (replicate 34 Space ++ (replicate 6 Mark ++ (replicate 7 Space ++ replicate 7 Mark))))
+      ≡ replicate 7 Space ++ (replicate 7 Mark ++ (replicate 34 Space ++ (replicate 6 Mark ++ (replicate 7 Space ++ replicate 7 Mark))))
   pub clocks-of-41 : length (sent-at (usart-times eight-n-one 6 0x6f) 0x41) ≡ 68
   pub samples-of-bit-4 : samples-of (usart-times eight-n-one 6 0x6f) 4 ≡ 30 ∷ (31 ∷ (32 ∷ []))
   pub samples-of-bit-9 : samples-of (usart-times eight-n-one 6 0x6f) 9 ≡ 63 ∷ (64 ∷ (65 ∷ []))
@@ -48,6 +48,6 @@ pub record Worked : Type 0 where
   -- 41h with its address bit set is 141h
   pub addressed-41 : low-bits 9 0x141 ≡ low-bits 8 0x41 ++ (Mark ∷ [])
   pub parity-of-141 : parity-bits Even (low-bits 9 0x141) ≡ Mark ∷ []
-  pub break-after-60 : heard-at-3 (replicate 60 Space) ≡ (0 , 4) ∷ ((0 , 8) ∷ [])
-  pub no-break-after-59 : heard-at-3 (replicate 59 Space) ≡ (0 , 4) ∷ []
+  pub break-after-60 : heard-at-3 (replicate 60 Space) ≡ (0, 4) ∷ ((0, 8) ∷ [])
+  pub no-break-after-59 : heard-at-3 (replicate 59 Space) ≡ (0, 4) ∷ []
   pub false-start : heard-at-3 (Space ∷ (Mark ∷ (Mark ∷ []))) ≡ []

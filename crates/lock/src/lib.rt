@@ -16,7 +16,9 @@ use usart::Usart;
 use usart::UsartKind;
 
 pub const CLOCK_HERTZ: u64 = 32768;
+
 pub const DIVIDER: u16 = 6;
+
 pub const MODULATOR: u8 = 0x6f;
 
 // 8 data bits, no parity, one stop bit, at the watch crystal's rate.
@@ -24,6 +26,11 @@ pub fn lock_timing() -> Result<Timing, Refusal>
     ensures times { λ r. ⌜ answered r ≡ Ok (usart-times eight-n-one 6 0x6f) ⌝ }
     ensures worked { λ _. ⌜ Worked ⌝ }
 {
-    let format = Format { size: DataBits::Eight, address: false, parity: Parity::Absent, stops: StopBits::One };
+    let format = Format {
+        size: DataBits::Eight,
+        address: false,
+        parity: Parity::Absent,
+        stops: StopBits::One,
+    };
     Usart::timing(format, Settings::new(DIVIDER, MODULATOR)?)
 }

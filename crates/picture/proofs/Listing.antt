@@ -33,14 +33,15 @@ module _ (es old more total : List Entry) (k : ℕ) (e : Entry) where
   room-for within is fits = omega (arith, within, fits, ap length is, length-append (take k es) (e ∷ more), length-take-le k es within)
 
   pub written : k < length es → take k es ++ (e ∷ more) ≡ total → drop k es ≡ drop k old
-    → (take (k + 1) (set es k e) ++ more ≡ total) × (drop (k + 1) (set es k e) ≡ drop (k + 1) old)
+      → (take (k + 1) (set es k e) ++ more ≡ total) × (drop (k + 1) (set es k e) ≡ drop (k + 1) old)
   written within is rest =
-    let past : k < k + 1 = omega arith in
-    (ap {B = List Entry} (λ l. l ++ more) (take-more-set es k e within) ∙ append-assoc (take k es) (e ∷ []) more ∙ is ,
-     drop-set-lt (k + 1) es k e past ∙ sym (again es) ∙ ap (λ (l : List Entry). drop 1 l) rest ∙ again old)
+      let past : k < k + 1 = omega arith in (
+        ap {B = List Entry} (λ l. l ++ more) (take-more-set es k e within) ∙ append-assoc (take k es) (e ∷ []) more ∙ is,
+        drop-set-lt (k + 1) es k e past ∙ sym (again es) ∙ ap (λ (l : List Entry). drop 1 l) rest ∙ again old,
+      )
     where
-    again : (l : List Entry) → drop 1 (drop k l) ≡ drop (k + 1) l
-    again l = drop-drop 1 k l
+      again : (l : List Entry) → drop 1 (drop k l) ≡ drop (k + 1) l
+      again l = drop-drop 1 k l
 
 -- all written, and the rest as it was
 pub all-written : (es old total : List Entry) (k : ℕ) → k ≤ length es → take k es ++ [] ≡ total → drop k es ≡ drop k old

@@ -14,4 +14,5 @@ returns c =
     let made = c .in-Continue-new .ensures tt in
     record {
       times = c .timing .ensures .times ∙ ap₂ {C = Result Times Refusal} (λ u m. Ok (usart-times eight-n-one u m)) (made .1) (made .2);
-      worked = worked }
+      worked = worked;
+    }

@@ -20,4 +20,5 @@ returns g c =
     let start = c .args .receiver .now in
     record {
       state = sym (at-drop-all (after-levels (g .R·Receiver .meaning (c .loop-level .receiver))) (c .args .levels .now) (c .loop-level .level-index) (c .loop-level-test .left)) ∙ c .loop-level .inv;
-      hears = hears-all (g .R·Receiver .meaning start) (g .R·Receiver·met .sound start) }
+      hears = hears-all (g .R·Receiver .meaning start) (g .R·Receiver·met .sound start);
+    }

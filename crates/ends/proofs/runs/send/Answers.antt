@@ -11,9 +11,10 @@ use Rattle.ends.proofs.runs.send.Needs as need
 
 pub loop-i-again : need.loop-i-again
 loop-i-again g c =
-    let s : SenderState = g .S·Sender .meaning (c .args .sender .now) in
-    (c .clock .ensures .state ∙ one-send s (c .loop-i .i) _ (c .loop-i .inv .0) ,
-     spoken-more s (c .loop-i .i) _ (c .loop-i .inv .0) (c .clock .result) (c .args .levels .now) (c .loop-i .levels) (omega arith) (c .clock .ensures .level) (c .loop-i .inv .1))
+    let s : SenderState = g .S·Sender .meaning (c .args .sender .now) in (
+      c .clock .ensures .state ∙ one-send s (c .loop-i .i) _ (c .loop-i .inv .0),
+      spoken-more s (c .loop-i .i) _ (c .loop-i .inv .0) (c .clock .result) (c .args .levels .now) (c .loop-i .levels) (omega arith) (c .clock .ensures .level) (c .loop-i .inv .1),
+    )
 
 pub returns : need.returns
 returns g c =
@@ -22,8 +23,9 @@ returns g c =
     let all : c .loop-i .i ≡ length (c .args .levels .now) = omega (arith, c .loop-i-test .left, c .loop-i .kept .i-end) in
     record {
       levels = c .loop-i .inv .1
-        ∙ ap {B = List Level} (λ l. spoken s (c .loop-i .i) ++ l) (drop-all (c .loop-i .i) (c .args .levels .now) (c .loop-i-test .left))
-        ∙ append-nil (spoken s (c .loop-i .i))
-        ∙ ap (spoken s) all;
+          ∙ ap {B = List Level} (λ l. spoken s (c .loop-i .i) ++ l) (drop-all (c .loop-i .i) (c .args .levels .now) (c .loop-i-test .left))
+          ∙ append-nil (spoken s (c .loop-i .i))
+          ∙ ap (spoken s) all;
       state = c .loop-i .inv .0 ∙ ap (after-sends s) all;
-      due = sends s (frame-begun s (g .S·Sender·met .sound start)) }
+      due = sends s (frame-begun s (g .S·Sender·met .sound start));
+    }

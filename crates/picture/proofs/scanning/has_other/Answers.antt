@@ -13,14 +13,14 @@ returns-then-byte-gt1 c =
     let bs = c .args .picture .now in
     let i : ℕ = c .loop-byte .byte-index in
     sym (sym (c .loop-byte .inv) ∙ at-drop-more any-other bs i 0 (c .loop-byte-test .taken)
-      ∙ ap (λ (b : Bool). b || any-other (drop (i + 1) bs)) (lt-ltb 1 (getD bs i 0) (c .if-byte-gt1 .taken)))
+    ∙ ap (λ (b : Bool). b || any-other (drop (i + 1) bs)) (lt-ltb 1 (getD bs i 0) (c .if-byte-gt1 .taken)))
 
 pub loop-byte-again : need.loop-byte-again
 loop-byte-again c =
     let bs = c .args .picture .now in
     let i : ℕ = c .loop-byte .byte-index in
     sym (at-drop-more any-other bs i 0 (c .loop-byte-test .taken)
-      ∙ ap (λ (b : Bool). b || any-other (drop (i + 1) bs)) (le-ltb 1 (getD bs i 0) (c .if-byte-gt1 .left))) ∙ c .loop-byte .inv
+    ∙ ap (λ (b : Bool). b || any-other (drop (i + 1) bs)) (le-ltb 1 (getD bs i 0) (c .if-byte-gt1 .left))) ∙ c .loop-byte .inv
 
 pub returns : need.returns
 returns c = sym (sym (c .loop-byte .inv) ∙ at-drop-all any-other (c .args .picture .now) (c .loop-byte .byte-index) (c .loop-byte-test .left))

@@ -28,7 +28,8 @@ returns-then-has-other c =
     record {
       answer = ap {B = Answer} (λ b. cond b (Err NotALevel) (cond (ltb (length (c .args .entries .now)) n) (Err TooShort) (Ok n))) (c .if-has-other .ensures tt);
       entries = refl;
-      recovers = recovers t bs }
+      recovers = recovers t bs;
+    }
 
 -- all bytes are levels, and so many entries are there
 counted : (t : Timing) (bs : List ℕ) (room n : ℕ) (short : Bool) → false ≡ any-other bs → n ≡ length (listed t bs) → short ≡ ltb room n
@@ -46,7 +47,8 @@ returns-then-entries-found c =
     record {
       answer = counted t bs (length (c .args .entries .now)) (c .count-found .result) true (c .if-has-other .ensures tt) n (sym (lt-ltb (length (c .args .entries .now)) (c .count-found .result) (c .if-entries-found .taken)));
       entries = refl;
-      recovers = recovers t bs }
+      recovers = recovers t bs;
+    }
 
 pub returns : need.returns
 returns c =
@@ -57,6 +59,7 @@ returns c =
     record {
       answer = counted t bs (length (c .args .entries .now)) (c .count-found .result) false (c .if-has-other .ensures tt) n (sym (le-ltb (length (c .args .entries .now)) (c .count-found .result) (c .if-entries-found .left)));
       entries = c .list .ensures
-        ∙ ap {B = List Entry} (λ es. es ++ drop (length es) (c .args .entries .now)) made
-        ∙ ap {B = List Entry} (λ m. listed t bs ++ drop m (c .args .entries .now)) (sym n);
-      recovers = recovers t bs }
+          ∙ ap {B = List Entry} (λ es. es ++ drop (length es) (c .args .entries .now)) made
+          ∙ ap {B = List Entry} (λ m. listed t bs ++ drop m (c .args .entries .now)) (sym n);
+      recovers = recovers t bs;
+    }

@@ -16,7 +16,8 @@ returns c =
     let clocked : meant (c .clock .last .self) ≡ after-clock r l = c .clock .ensures ∙ ap (λ x. after-clock r x) (c .level .ensures) in
     let left : meant (c .read .last .self) ≡ after-read (after-clock r l) = c .read .ensures .state ∙ ap after-read clocked in
     let answer : listOf (c .ok .result) ≡ listOf (okPart (oldest (after-clock r l .unread))) =
-      ap listOf (c .ok .ensures .value) ∙ ap (λ x. listOf (okPart x)) (c .read .ensures .answer) ∙ ap (λ (m : ReceiverState). listOf (okPart (oldest (m .unread)))) clocked in
+    ap listOf (c .ok .ensures .value) ∙ ap (λ x. listOf (okPart x)) (c .read .ensures .answer) ∙ ap (λ (m : ReceiverState). listOf (okPart (oldest (m .unread)))) clocked in
     record {
       unread = ap (λ (m : ReceiverState). m .unread) left ∙ none-left r (c .pre) l;
-      taken = λ ls. read-now r (c .pre) l ls ∙ sym (ap₂ {C = List Entry} (λ es m. es ++ taken-down m ls) answer left) }
+      taken = λ ls. read-now r (c .pre) l ls ∙ sym (ap₂ {C = List Entry} (λ es m. es ++ taken-down m ls) answer left);
+    }

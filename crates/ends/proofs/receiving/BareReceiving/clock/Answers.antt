@@ -32,6 +32,9 @@ add-clock c =
     let r = c .args .self .now in
     let n : ℕ = c .in-Framing-rest-rest .clock in
     let e : r .doing ≡ Framing n = c .in-Framing-rest-rest .is-0 in
-    fits-below (n + 1) (omega (arith, clock-early (r .timing) (r .samples) (n + 1)
-      (subst (λ (d : Doing). taken-by d (r .samples .count) ≡ due-by (sample-clocks (r .timing)) d) e (r .«in_step»))
-      (subst (λ (d : Doing). taken-by d (r .samples .count) < r .timing .«sample_count») e (r .unended))))
+    fits-below (n + 1) (omega (
+      arith,
+      clock-early (r .timing) (r .samples) (n + 1)
+          (subst (λ (d : Doing). taken-by d (r .samples .count) ≡ due-by (sample-clocks (r .timing)) d) e (r .«in_step»))
+          (subst (λ (d : Doing). taken-by d (r .samples .count) < r .timing .«sample_count») e (r .unended)),
+    ))

@@ -28,4 +28,5 @@ returns c =
       taken = is;
       heard = ap (λ (l : List Level). in-frame (t .format) 0 l) is ∙ starts (t .format) (falling-on 0 (sample-clocks t)) few ∙ ap (λ (l : List Level). nothing (framing 0 l)) (sym is);
       in-step = step;
-      unended = omega (arith, step, few-at-first t, t .counted) }
+      unended = omega (arith, step, few-at-first t, t .counted);
+    }

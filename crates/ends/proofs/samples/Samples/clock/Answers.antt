@@ -37,7 +37,8 @@ returns-then-self-timing c =
       taken = c .take-down .ensures;
       heard = over-by-digits (t .format) n (taken u) (c .entry-character .result) (c .digits-digits .result) all (c .digits-digits .ensures .value) (c .entry-character .ensures);
       in-step = in-step t (c .args .self .now) u n (c .args .level) (c .pre .in-step) (c .take-down .ensures);
-      unended = λ e. absurd (let z : _≡_ {A = ℕ} 0 1 = cc in omega arith) }
+      unended = λ e. absurd (let z : _≡_ {A = ℕ} 0 1 = cc in omega arith);
+    }
 
 pub returns-in-Mark : need.returns-in-Mark
 returns-in-Mark c =
@@ -49,7 +50,8 @@ returns-in-Mark c =
       taken = c .take-down .ensures;
       heard = unended t u n (Mark ∷ decided (drop 3 (taken u))) (short t u (n + 1) step (c .if-self-timing .left)) (decided-more u 0 Mark (c .if-self-ge3 .taken) (c .in-Mark .ensures tt));
       in-step = step;
-      unended = λ e. absurd (let z : _≡_ {A = ℕ} 0 1 = cc in omega arith) }
+      unended = λ e. absurd (let z : _≡_ {A = ℕ} 0 1 = cc in omega arith);
+    }
 
 pub returns-in-rest : need.returns-in-rest
 returns-in-rest c =
@@ -62,7 +64,8 @@ returns-in-rest c =
       taken = c .take-down .ensures;
       heard = unended t u n (Space ∷ decided (drop 3 (taken u))) few (decided-more u 0 Space (c .if-self-ge3 .taken) (c .in-rest .ensures tt));
       in-step = step;
-      unended = λ e. few }
+      unended = λ e. few;
+    }
 
 pub returns-else-self-ge3 : need.returns-else-self-ge3
 returns-else-self-ge3 c =
@@ -75,4 +78,5 @@ returns-else-self-ge3 c =
       taken = c .take-down .ensures;
       heard = unended t u n [] few (few-decided (taken u) (omega (arith, taken-length u, c .if-self-ge3 .left)));
       in-step = step;
-      unended = λ e. few }
+      unended = λ e. few;
+    }

@@ -23,16 +23,18 @@ turn : (s : Samples) (bits k d : ℕ) (b : Level) → s .count ≡ 3 * bits → 
 turn s bits k d b count some most is value bound =
     let back : k - 1 + 1 ≡ k = omega arith in
     let power : 2 ^ (bits - (k - 1)) ≡ 2 ^ (bits - k) * 2 = ap (λ (x : ℕ). 2 ^ x) (longer bits k some most) ∙ pow-suc 2 (bits - k) in
-    (low b ∙ sym (ap number (decided-more s (k - 1) b (omega arith) is) ∙ ap (λ (x : ℕ). number (b ∷ decided (drop (3 * x) (taken s)))) back) , omega (arith, power, digit-most b))
+    (low b ∙ sym (ap number (decided-more s (k - 1) b (omega arith) is) ∙ ap (λ (x : ℕ). number (b ∷ decided (drop (3 * x) (taken s)))) back), omega (arith, power, digit-most b))
   where
-  longer : (bits k : ℕ) → 0 < k → k ≤ bits → bits - (k - 1) ≡ suc (bits - k)
-  longer bits k some most = omega arith
-  low : (b : Level) → d * 2 + byte-of b ≡ number (b ∷ decided (drop (3 * k) (taken s)))
-  low Space = omega (arith, value)
-  low Mark = omega (arith, value)
-  digit-most : (b : Level) → byte-of b ≤ 1
-  digit-most Space = omega arith
-  digit-most Mark = omega arith
+    longer : (bits k : ℕ) → 0 < k → k ≤ bits → bits - (k - 1) ≡ suc (bits - k)
+    longer bits k some most = omega arith
+
+    low : (b : Level) → d * 2 + byte-of b ≡ number (b ∷ decided (drop (3 * k) (taken s)))
+    low Space = omega (arith, value)
+    low Mark = omega (arith, value)
+
+    digit-most : (b : Level) → byte-of b ≤ 1
+    digit-most Space = omega arith
+    digit-most Mark = omega arith
 
 pub loop-k-holds : need.loop-k-holds
 loop-k-holds c =

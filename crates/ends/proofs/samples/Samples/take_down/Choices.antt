@@ -9,7 +9,7 @@ use Rattle.ends.proofs.samples.Samples.take_down.Given as given
 
 abbrev pub Inv-loop-self : given.InvT-loop-self
 Inv-loop-self l = (l .entry .self .count ≤ l .self .count)
-  × (taken (l .self) ++ replicate (falling-on (l .clock) (drop (l .self .count) (sample-clocks (l .timing)))) (l .level)
+    × (taken (l .self) ++ replicate (falling-on (l .clock) (drop (l .self .count) (sample-clocks (l .timing)))) (l .level)
     ≡ taken (l .entry .self) ++ replicate (falling-on (l .clock) (drop (l .entry .self .count) (sample-clocks (l .timing)))) (l .level))
 
 abbrev pub μ-loop-self : given.MeasureT-loop-self

@@ -3,5 +3,5 @@ use native.Mathlib.Omega.{arith}
 use Rattle.std.proofs.shelf.Lists.{getD-past}
 use Rattle.ends.proofs.sending.BareSending.bit_length.Needs as need
 
-pub returns-else-bit-lt13 : need.returns-else-bit-lt13
-returns-else-bit-lt13 c = sym (getD-past (c .args .self .now .timing .lengths) (c .args .bit) 0 (omega arith))
+pub returns-else-bit-lt-MOST-BITS : need.returns-else-bit-lt-MOST-BITS
+returns-else-bit-lt-MOST-BITS c = sym (getD-past (c .args .self .now .timing .lengths) (c .args .bit) 0 (omega arith))

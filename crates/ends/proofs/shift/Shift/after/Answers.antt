@@ -28,4 +28,5 @@ returns c =
     record {
       levels = next-bit (t .format) (t .lengths) (s .digits) (s .bit) (s .clocks) (c .pre .1) (c .if-self-gt1 .left) more within;
       bit = more;
-      clocks = t .lasting (s .bit + 1) (omega (arith, t .thirteen)) }
+      clocks = t .lasting (s .bit + 1) (omega (arith, t .thirteen));
+    }

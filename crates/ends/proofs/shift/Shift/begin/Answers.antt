@@ -11,6 +11,7 @@ returns c =
     let t = c .args .timing .now in
     record {
       levels = ap (λ (d : ℕ). shift-levels (t .format) (t .lengths) (record { digits = d; bit = 0; clocks = getD (t .lengths) 0 0 })) (c .frame .ensures .value)
-        ∙ whole-frame (t .format) (t .lengths) (c .args .character) (getD (t .lengths) 0 0) (t .thirteen) refl;
+          ∙ whole-frame (t .format) (t .lengths) (c .args .character) (getD (t .lengths) 0 0) (t .thirteen) refl;
       bit = refl;
-      clocks = t .lasting 0 (omega arith) }
+      clocks = t .lasting 0 (omega arith);
+    }

@@ -1,0 +1,3 @@
+// Examples of the rules, with values worked out by hand, run against the library.
+#[cfg(test)]
+mod tests;
