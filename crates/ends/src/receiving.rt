@@ -209,11 +209,12 @@ pub impl Receiver for BareReceiver as BareReceiving {
                     Progress::GoesOn => {}
                     Progress::FalseStart => self.doing = Doing::Idle,
                     Progress::Over(character, flags) => {
-                        self.doing = if flags < FRAMING {
+                        let next = if flags < FRAMING {
                             Doing::Idle
                         } else {
                             Doing::Counting { spaces: 0 }
                         };
+                        self.doing = next;
                         self.unread = Some(arrived(self.unread, character, flags));
                     }
                 }

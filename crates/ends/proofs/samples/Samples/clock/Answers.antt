@@ -10,22 +10,33 @@ use Rattle.line.specs.declared.level.Level.the-variants.{Space, Mark}
 use Rattle.ends.specs.declared.timing.Timing.{Timing}
 use Rattle.ends.specs.declared.samples.Samples.{Samples}
 use Rattle.ends.specs.Times.{sample-count}
-use Rattle.ends.specs.Receiver.{Heard, nothing, going-on, decided, in-frame, falling-before}
+use Rattle.ends.specs.Receiver.{Heard, nothing, going-on, decided, in-frame, falling-before, taken-now}
 use Rattle.ends.specs.Timed.{sample-clocks}
 use Rattle.ends.specs.Samples.{taken}
 use Rattle.ends.proofs.Sampling.{taken-length, in-step, not-past, decided-more}
 use Rattle.ends.proofs.InFrame.{frame-unended, few-decided, over-by-digits}
 use Rattle.ends.proofs.samples.Samples.clock.Needs as need
 
--- a frame some of whose samples are to come
-short : (t : Timing) (u : Samples) (n : ℕ) → u .count ≡ falling-before n (sample-clocks t) → (u .count ≡ t .«sample_count» → ⊥) → u .count < t .«sample_count»
-short t u n e ne = ⊎-elim (λ (l : u .count < t .«sample_count»). l) (λ (g : t .«sample_count» ≤ u .count). absurd (ne (omega (arith, g, not-past t u n e)))) (cases-lt (u .count) (t .«sample_count»))
+-- after a clock n that leaves samples to come, where the bits decided so far are bs
+record Unended (t : Timing) (u : Samples) (n : ℕ) (bs : List Level) : Type 0 where
+  pub step : u .count ≡ falling-before (n + 1) (sample-clocks t)
+  pub few : u .count < t .«sample_count»
+  -- the frame goes on, unless the start bit was decided as mark
+  pub goes-on : nothing (going-on bs n (taken u)) ≡ in-frame (t .format) n (taken u)
 
--- it goes on, unless the start bit was decided as mark
-unended : (t : Timing) (u : Samples) (n : ℕ) (bs : List Level) → u .count < t .«sample_count» → decided (taken u) ≡ bs
-    → nothing (going-on bs n (taken u)) ≡ in-frame (t .format) n (taken u)
-unended t u n bs h e =
-    ap {B = Heard} (λ l. nothing (going-on l n (taken u))) (sym e) ∙ sym (frame-unended (t .format) n (taken u) (omega (arith, h, taken-length u, t .counted)))
+unended : (t : Timing) (s u : Samples) (n : ℕ) (l : Level) (bs : List Level) → s .count ≡ falling-before n (sample-clocks t)
+    → taken u ≡ taken-now (sample-clocks t) n (taken s) l → (u .count ≡ t .«sample_count» → ⊥) → decided (taken u) ≡ bs → Unended t u n bs
+unended t s u n l bs before is ne e = record {
+  step = step;
+  few = few;
+  goes-on = ap {B = Heard} (λ ls. nothing (going-on ls n (taken u))) (sym e) ∙ sym (frame-unended (t .format) n (taken u) (omega (arith, few, taken-length u, t .counted)));
+}
+  where
+    step : u .count ≡ falling-before (n + 1) (sample-clocks t)
+    step = in-step t s u n l before is
+
+    few : u .count < t .«sample_count»
+    few = ⊎-elim (λ (h : u .count < t .«sample_count»). h) (λ (h : t .«sample_count» ≤ u .count). absurd (ne (omega (arith, h, not-past t u (n + 1) step)))) (cases-lt (u .count) (t .«sample_count»))
 
 pub returns-then-self-timing : need.returns-then-self-timing
 returns-then-self-timing c =
@@ -42,41 +53,21 @@ returns-then-self-timing c =
 
 pub returns-in-Mark : need.returns-in-Mark
 returns-in-Mark c =
-    let t = c .args .timing .now in
     let u = c .take-down .last .self in
-    let n : ℕ = c .args .clock in
-    let step : u .count ≡ falling-before (n + 1) (sample-clocks t) = in-step t (c .args .self .now) u n (c .args .level) (c .pre .in-step) (c .take-down .ensures) in
-    record {
-      taken = c .take-down .ensures;
-      heard = unended t u n (Mark ∷ decided (drop 3 (taken u))) (short t u (n + 1) step (c .if-self-timing .left)) (decided-more u 0 Mark (c .if-self-ge3 .taken) (c .in-Mark .ensures tt));
-      in-step = step;
-      unended = λ e. absurd (let z : _≡_ {A = ℕ} 0 1 = cc in omega arith);
-    }
+    let x = unended (c .args .timing .now) (c .args .self .now) u (c .args .clock) (c .args .level) (Mark ∷ decided (drop 3 (taken u))) (c .pre .in-step) (c .take-down .ensures) (c .if-self-timing .left)
+    (decided-more u 0 Mark (c .if-self-ge3 .taken) (c .in-Mark .ensures tt)) in
+    record { taken = c .take-down .ensures; heard = x .goes-on; in-step = x .step; unended = λ e. x .few }
 
 pub returns-in-rest : need.returns-in-rest
 returns-in-rest c =
-    let t = c .args .timing .now in
     let u = c .take-down .last .self in
-    let n : ℕ = c .args .clock in
-    let step : u .count ≡ falling-before (n + 1) (sample-clocks t) = in-step t (c .args .self .now) u n (c .args .level) (c .pre .in-step) (c .take-down .ensures) in
-    let few : u .count < t .«sample_count» = short t u (n + 1) step (c .if-self-timing .left) in
-    record {
-      taken = c .take-down .ensures;
-      heard = unended t u n (Space ∷ decided (drop 3 (taken u))) few (decided-more u 0 Space (c .if-self-ge3 .taken) (c .in-rest .ensures tt));
-      in-step = step;
-      unended = λ e. few;
-    }
+    let x = unended (c .args .timing .now) (c .args .self .now) u (c .args .clock) (c .args .level) (Space ∷ decided (drop 3 (taken u))) (c .pre .in-step) (c .take-down .ensures) (c .if-self-timing .left)
+    (decided-more u 0 Space (c .if-self-ge3 .taken) (c .in-rest .ensures tt)) in
+    record { taken = c .take-down .ensures; heard = x .goes-on; in-step = x .step; unended = λ e. x .few }
 
 pub returns-else-self-ge3 : need.returns-else-self-ge3
 returns-else-self-ge3 c =
-    let t = c .args .timing .now in
     let u = c .take-down .last .self in
-    let n : ℕ = c .args .clock in
-    let step : u .count ≡ falling-before (n + 1) (sample-clocks t) = in-step t (c .args .self .now) u n (c .args .level) (c .pre .in-step) (c .take-down .ensures) in
-    let few : u .count < t .«sample_count» = short t u (n + 1) step (c .if-self-timing .left) in
-    record {
-      taken = c .take-down .ensures;
-      heard = unended t u n [] few (few-decided (taken u) (omega (arith, taken-length u, c .if-self-ge3 .left)));
-      in-step = step;
-      unended = λ e. few;
-    }
+    let x = unended (c .args .timing .now) (c .args .self .now) u (c .args .clock) (c .args .level) [] (c .pre .in-step) (c .take-down .ensures) (c .if-self-timing .left)
+    (few-decided (taken u) (omega (arith, taken-length u, c .if-self-ge3 .left))) in
+    record { taken = c .take-down .ensures; heard = x .goes-on; in-step = x .step; unended = λ e. x .few }
