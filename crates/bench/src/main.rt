@@ -15,17 +15,25 @@ use picture::scan;
 use std::env;
 use std::error::AnyError;
 use std::io;
+use usart::ROWS;
+use usart::Row;
+use usart::Settings;
 
 const SAMPLE: &str = "2026-11-17 08:59 opened, key 4";
 
 // No character of the lock's takes more clocks.
 const MOST_CLOCKS: usize = 4096 * 80;
 
-const HELP: &str = "usage: bench [RECORD]
+const HELP: &str = "usage: bench [table | demo [RECORD]]
 
-Draws a lock's record, a line of text, level by level as the lock's port sends
-it, scans the picture back, then spoils the picture in two places and tells
-which characters carry which flags. Without a record it takes a sample.";
+  table   the settings that are built into locks, each with the baud rate that
+          it truly gives and how far that is from the nominal one
+  demo    draws a lock's record, a line of text, level by level as the lock's
+          port sends it, scans the picture back, then spoils the picture in two
+          places and tells which characters carry which flags; without a
+          record it takes a sample
+
+Without a word it does both.";
 
 fn main(rt: LibcRuntime) -> Result<(), AnyError> {
     rt.report(run(&rt))
@@ -35,16 +43,21 @@ fn run(rt: &LibcRuntime) -> Result<(), AnyError> {
     let mut words = env::args(rt)?;
     let _ = words.next();
     let Some(word) = words.next() else {
+        print_table(rt)?;
+        println!(rt, "")?;
         return demo(rt, SAMPLE);
     };
+    let record = words.next();
     if words.next().is_some() {
-        return Err("more than one record; put a record in quotes".into());
+        return Err("too many words; put a record in quotes".into());
     }
-    if word.as_str() == "--help" {
-        rt.println(HELP)?;
-        return Ok(());
+    match (word.as_str(), record) {
+        ("--help", None) => Ok(rt.println(HELP)?),
+        ("table", None) => Ok(print_table(rt)?),
+        ("demo", None) => demo(rt, SAMPLE),
+        ("demo", Some(record)) => demo(rt, record.as_str()),
+        _ => Err("unknown words; 'bench --help' says which there are".into()),
     }
-    demo(rt, word.as_str())
 }
 
 fn demo(rt: &LibcRuntime, record: &str) -> Result<(), AnyError> {
@@ -199,4 +212,47 @@ fn print_flagged(rt: &LibcRuntime, entries: &[(u16, u8)]) -> io::Result<()> {
         }
     }
     Ok(())
+}
+
+// The settings that are built into locks, one row to a line.
+fn print_table(rt: &LibcRuntime) -> io::Result<()> {
+    println!(
+        rt,
+        "Settings built into locks, and what each truly gives over a frame of ten bits:"
+    )?;
+    println!(
+        rt,
+        "   clock Hz     baud  divider  modulator   true baud   off by, per mille"
+    )?;
+    for row in ROWS {
+        print_row(rt, row)?;
+    }
+    Ok(())
+}
+
+fn print_row(rt: &LibcRuntime, row: Row) -> io::Result<()> {
+    let Ok(settings) = Settings::new(row.divider, row.modulator) else {
+        return Ok(());
+    };
+    let clock = row.clock;
+    let baud = row.baud;
+    let divider = row.divider;
+    let modulator = row.modulator;
+    let clocks = u64::from(settings.clocks(10)).max(1);
+    let nominal = u64::from(baud).max(1);
+    let ten_bits = u64::from(clock) * 10;
+    let tenths = (ten_bits * 10 + clocks / 2) / clocks;
+    // in ten thousandths of the nominal rate
+    let share = (ten_bits * 10000 + clocks.saturating_mul(nominal) / 2)
+        / clocks.saturating_mul(nominal).max(1);
+    let sign = if share < 10000 { '-' } else { '+' };
+    let off = share.abs_diff(10000);
+    println!(
+        rt,
+        "  {clock:>9}  {baud:>7}  {divider:>7}        {modulator:02X}h  {:>8}.{}            {sign}{}.{}",
+        tenths / 10,
+        tenths % 10,
+        off / 10,
+        off % 10
+    )
 }

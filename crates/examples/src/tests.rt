@@ -19,10 +19,17 @@ use line::refusal::RefusalDebug;
 use line::refusal::RefusalPartialEq;
 use picture::draw;
 use picture::scan;
+use port::Port;
+use port::PortKind;
+use queue::ReceiveQueue;
+use queue::ReceiveQueueReceiving;
+use queue::SendQueue;
+use queue::SendQueueSending;
 use std::test::*;
 use usart::Settings;
 use usart::Usart;
 use usart::UsartKind;
+use usart::built_in;
 
 const EIGHT_N_ONE: Format = Format {
     size: DataBits::Eight,
@@ -210,4 +217,105 @@ fn an_unread_character_is_overrun() -> Result<(), Fail> {
     }
     check_eq(receiver.read(), Ok((0x42, 1)))?;
     check_eq(receiver.read(), Err(Refusal::NothingUnread))
+}
+
+// The rows as the chip's description prints them: baud rate, high and low byte of the divider, modulator.
+const WATCH_CRYSTAL: [(u32, u16, u16, u8); 9] = [
+    (75, 0x01, 0xb4, 0xff),
+    (110, 0x01, 0x29, 0xff),
+    (150, 0x00, 0xda, 0x55),
+    (300, 0x00, 0x6d, 0x22),
+    (600, 0x00, 0x36, 0xd5),
+    (1200, 0x00, 0x1b, 0x03),
+    (2400, 0x00, 0x0d, 0x6b),
+    (4800, 0x00, 0x06, 0x6f),
+    (9600, 0x00, 0x03, 0x4a),
+];
+
+const FAST_CLOCK: [(u32, u16, u16, u8); 13] = [
+    (75, 0x36, 0x9d, 0xff),
+    (110, 0x25, 0x3c, 0xff),
+    (150, 0x1b, 0x4e, 0xff),
+    (300, 0x0d, 0xa7, 0x00),
+    (600, 0x06, 0xd3, 0xff),
+    (1200, 0x03, 0x69, 0xff),
+    (2400, 0x01, 0xb4, 0xff),
+    (4800, 0x00, 0xda, 0x55),
+    (9600, 0x00, 0x6d, 0x03),
+    (19200, 0x00, 0x36, 0x6b),
+    (38400, 0x00, 0x1b, 0x03),
+    (76800, 0x00, 0x0d, 0x6b),
+    (115200, 0x00, 0x09, 0x08),
+];
+
+fn check_rows(clock: u32, rows: &[(u32, u16, u16, u8)]) -> Result<(), Fail> {
+    for row in rows {
+        let (baud, high, low, modulator) = *row;
+        let settings = built_in(clock, baud).ok_or("no such row")?;
+        check_eq(settings.divider(), high.wrapping_mul(256).wrapping_add(low))?;
+        check_eq(settings.modulator(), modulator)?;
+    }
+    Ok(())
+}
+
+#[test]
+fn the_table_has_the_printed_rows() -> Result<(), Fail> {
+    check_rows(32768, &WATCH_CRYSTAL)?;
+    check_rows(1048576, &FAST_CLOCK)?;
+    check(built_in(32768, 19200).is_none())?;
+    check(built_in(1048576, 14400).is_none())?;
+    check(built_in(1000000, 9600).is_none())
+}
+
+// A queue on a queue has 33 places.
+#[test]
+fn a_queue_of_two_levels_fills_and_drains() -> Result<(), Fail> {
+    let timing = short_port(DataBits::Eight)?;
+    let mut sender = SendQueue::new(SendQueue::new(BareSender::new(timing)));
+    let mut receiver = ReceiveQueue::new(ReceiveQueue::new(BareReceiver::new(timing)));
+    for character in 0..33 {
+        check_eq(sender.load(character), Ok(()))?;
+    }
+    check_eq(sender.load(33), Err(Refusal::Full))?;
+    check_eq(sender.load(0x100), Err(Refusal::TooWide))?;
+    // the first clock takes a character on the line, and so makes room for another
+    receiver.clock(sender.clock());
+    check_eq(sender.load(33), Ok(()))?;
+    check_eq(sender.load(34), Err(Refusal::Full))?;
+    for _ in 0..34 * 30 {
+        receiver.clock(sender.clock());
+    }
+    // the 34th entry found no place: it took that of the 33rd
+    for character in 0..32 {
+        check_eq(receiver.read(), Ok((character, 0)))?;
+    }
+    check_eq(receiver.read(), Ok((33, 1)))?;
+    check_eq(receiver.read(), Err(Refusal::NothingUnread))
+}
+
+#[test]
+fn the_port_counts_in_sixteenths() -> Result<(), Fail> {
+    check_eq(port::Settings::new(0).err(), Some(Refusal::OutOfRange))?;
+    check_eq(port::Settings::new(4097).err(), Some(Refusal::OutOfRange))?;
+    let addressed = Format::from_numbers(8, 1, 0, 1)?;
+    check_eq(
+        Port::timing(addressed, port::Settings::new(1)?).err(),
+        Some(Refusal::OutOfRange),
+    )?;
+    let fast = Port::timing(EIGHT_N_ONE, port::Settings::new(1)?)?;
+    let sender = BareSender::new(fast);
+    check_eq(sender.bit_length(0), 16)?;
+    check_eq(sender.bit_length(12), 16)?;
+    let receiver = BareReceiver::new(fast);
+    check_eq(receiver.sample_clock(0), 7)?;
+    check_eq(receiver.sample_clock(1), 8)?;
+    check_eq(receiver.sample_clock(29), 153)?;
+    check_eq(fast.break_length, 160)?;
+    let slow = Port::timing(EIGHT_N_ONE, port::Settings::new(4096)?)?;
+    check_eq(slow.lengths[3], 65536)?;
+    let receiver = BareReceiver::new(slow);
+    check_eq(receiver.sample_clock(0), 28672)?;
+    check_eq(receiver.sample_clock(2), 36864)?;
+    check_eq(receiver.sample_clock(27), 618496)?;
+    check_eq(slow.break_length, 655360)
 }

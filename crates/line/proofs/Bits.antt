@@ -65,6 +65,10 @@ parity-most Absent = omega arith
 parity-most Odd = omega arith
 parity-most Even = omega arith
 
+-- no format has more than twelve bits through its first stop bit
+pub stop-most : (f : Format) → first-stop f ≤ 11
+stop-most f = omega (arith, width-most f, parity-most (f .parity))
+
 pub stop-some : (p : StopBits) → (1 ≤ stop-count p) × (stop-count p ≤ 2)
 stop-some One = omega arith
 stop-some Two = omega arith

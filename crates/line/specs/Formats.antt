@@ -1,8 +1,10 @@
 -- A format by plain numbers, and when two formats agree.
 use Prim.Native.Nat.{ℕ}
 use mathlib.Core.Path.{_≡_}
-use mathlib.Core.Bool.{cond}
+use mathlib.Core.Bool.{Bool, true, false, cond, not, _&&_}
 use Rattle.line.specs.Frames.{data-count, stop-count}
+use Rattle.line.specs.declared.format.DataBits.{DataBits}
+use Rattle.line.specs.declared.format.DataBits.the-variants.{Seven, Eight}
 use Rattle.line.specs.declared.format.Parity.{Parity}
 use Rattle.line.specs.declared.format.Parity.the-variants.{Absent, Odd, Even}
 use Rattle.line.specs.declared.format.Format.{Format}
@@ -24,3 +26,28 @@ pub record Agree (f g : Format) : Type 0 where
   pub size : f .size ≡ g .size
   pub address : f .address ≡ g .address
   pub parity : f .parity ≡ g .parity
+
+abbrev pub same-size : DataBits → DataBits → Bool
+same-size Seven Seven = true
+same-size Seven Eight = false
+same-size Eight Seven = false
+same-size Eight Eight = true
+
+abbrev pub same-address : Bool → Bool → Bool
+same-address true b = b
+same-address false b = not b
+
+abbrev pub same-parity : Parity → Parity → Bool
+same-parity Absent Absent = true
+same-parity Absent Odd = false
+same-parity Absent Even = false
+same-parity Odd Absent = false
+same-parity Odd Odd = true
+same-parity Odd Even = false
+same-parity Even Absent = false
+same-parity Even Odd = false
+same-parity Even Even = true
+
+-- whether they agree
+abbrev pub agree : Format → Format → Bool
+agree f g = same-size (f .size) (g .size) && (same-address (f .address) (g .address) && same-parity (f .parity) (g .parity))

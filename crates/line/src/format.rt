@@ -6,7 +6,8 @@ ghost use Rattle.std.specs.Results.{Cases};
 ghost use Rattle.line.specs.Levels.{number, low-bits};
 ghost use Rattle.line.specs.Frames.{width, first-stop, frame-bits, parity-bits, parity-count, stop-count, frame};
 ghost use Rattle.line.specs.declared.level.Level.the-variants.{Mark};
-ghost use Rattle.line.specs.Formats.{Numbers};
+ghost use Rattle.line.specs.Formats.{Numbers, Agree, agree};
+ghost use Rattle.std.specs.Orderings.{When};
 use super::refusal::Refusal;
 
 #[derive(Clone, Copy)]
@@ -74,6 +75,24 @@ impl Format {
             parity,
             stops,
         })
+    }
+
+    // Whether two formats agree, which they do where they differ in nothing but the stop bits.
+    pub fn agrees(self, other: Format) -> bool
+        ensures test { λ r. ⌜ r ≡ agree self other ⌝ }
+        ensures cases { λ r. ⌜ When r (Agree self other) (Agree self other → ⊥) ⌝ }
+    {
+        let size = match (self.size, other.size) {
+            (DataBits::Seven, DataBits::Seven) | (DataBits::Eight, DataBits::Eight) => true,
+            _ => false,
+        };
+        let parity = match (self.parity, other.parity) {
+            (Parity::Absent, Parity::Absent)
+            | (Parity::Odd, Parity::Odd)
+            | (Parity::Even, Parity::Even) => true,
+            _ => false,
+        };
+        size && self.address == other.address && parity
     }
 
     // How many bits a character has.

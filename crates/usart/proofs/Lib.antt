@@ -2,3 +2,4 @@
 pub mod Distance
 pub mod Samples
 pub mod Table
+pub mod Rows

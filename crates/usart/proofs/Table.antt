@@ -10,14 +10,11 @@ use Rattle.std.proofs.shelf.Lists.{length-take-le, take-take, getD-take}
 use Rattle.std.proofs.shelf.Counted.{length-map-counting, take-map-counting}
 use Rattle.std.proofs.shelf.Elements.{all-from-getD, all-take}
 use Rattle.line.specs.declared.format.Format.{Format}
+use Rattle.line.proofs.Bits.{stop-most}
 use Rattle.line.specs.Frames.{first-stop}
 use Rattle.ends.specs.Times.{sum, Inside}
 use Rattle.usart.specs.Usart.{bit-length, lengths, samples, Lasting, Centred}
 use Rattle.usart.proofs.Samples.{bit-lasting, length-samples, take-samples, rising, within, sum-most, inside, centred, apart}
-
--- no format has more than twelve bits through the first stop bit
-pub stop-most : (f : Format) → first-stop f ≤ 11
-stop-most f = grind arith
 
 -- the samples of a frame are the first of the table
 pub frame-samples : (u m n : ℕ) → n ≤ 12 → take (3 * n) (samples 0 (take 12 (lengths u m 13))) ≡ samples 0 (lengths u m n)

@@ -3,7 +3,8 @@ ghost use mathlib.Core.Path.{_≡_};
 ghost use Prim.Native.Nat.{_<_, _≤_};
 ghost use Rattle.std.specs.Results.{Cases};
 ghost use Rattle.line.specs.declared.refusal.Refusal.the-variants.{OutOfRange};
-ghost use Rattle.usart.specs.Usart.{bit-length};
+ghost use Rattle.ends.specs.Times.{sum};
+ghost use Rattle.usart.specs.Usart.{bit-length, lengths};
 use line::Refusal;
 
 #[derive(Clone, Copy)]
@@ -37,8 +38,20 @@ impl Settings {
 
     // How many clocks bit `k` of a frame lasts; the modulator's bits begin anew with each frame.
     pub fn bit_length(&self, k: usize) -> u32
-        ensures { λ r. ⌜ r ≡ bit-length (now (self .entry) .divider) (now (self .entry) .modulator) k ⌝ }
+        ensures value { λ r. ⌜ r ≡ bit-length (now (self .entry) .divider) (now (self .entry) .modulator) k ⌝ }
+        ensures bound { λ r. ⌜ r ≤ 65536 ⌝ }
     {
         u32::from(self.divider) + u32::from((self.modulator >> (k % 8)) & 1)
+    }
+
+    // How many clocks the first bits of a frame last, so many of them.
+    pub fn clocks(&self, bits: u8) -> u32
+        ensures { λ r. ⌜ r ≡ sum (lengths (now (self .entry) .divider) (now (self .entry) .modulator) bits) ⌝ }
+    {
+        let mut clocks = 0;
+        for k in 0..bits {
+            clocks += self.bit_length(k as usize);
+        }
+        clocks
     }
 }

@@ -9,7 +9,7 @@ use Rattle.usart.proofs.usart.bit_lengths.Needs as need
 pub loop-k-again : need.loop-k-again
 loop-k-again c =
     let s = c .args .settings .now in
-    (simp (c .bit-length .ensures) (fill-by-more (bit-length (s .divider) (s .modulator)) (c .loop-k .table) (c .loop-k .k) 0 (omega arith) (c .loop-k .inv .0)), search needs)
+    (simp (c .bit-length .ensures .value) (fill-by-more (bit-length (s .divider) (s .modulator)) (c .loop-k .table) (c .loop-k .k) 0 (omega arith) (c .loop-k .inv .0)), search needs)
 
 pub returns : need.returns
 unfolding lengths

@@ -4,8 +4,9 @@ use mathlib.Core.Path.{_≡_}
 use Prim.Native.Nat.{_+_, _*_}
 use native.Mathlib.Omega.{arith}
 use Rattle.line.specs.Frames.{first-stop}
+use Rattle.line.proofs.Bits.{stop-most}
 use Rattle.usart.proofs.Samples.{bit-lasting}
-use Rattle.usart.proofs.Table.{stop-most, frame-samples, inside-used, centred-used, tables}
+use Rattle.usart.proofs.Table.{frame-samples, inside-used, centred-used, tables}
 use Rattle.usart.proofs.usart.UsartKind.timing.Needs as need
 
 pub sample-clocks-requires : need.sample-clocks-requires
