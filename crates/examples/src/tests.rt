@@ -251,7 +251,9 @@ const FAST_CLOCK: [(u32, u16, u16, u8); 13] = [
 fn check_rows(clock: u32, rows: &[(u32, u16, u16, u8)]) -> Result<(), Fail> {
     for row in rows {
         let (baud, high, low, modulator) = *row;
-        let settings = built_in(clock, baud).ok_or("no such row")?;
+        let Some(settings) = built_in(clock, baud) else {
+            return Err(Fail::new("a row is missing"));
+        };
         check_eq(settings.divider(), high.wrapping_mul(256).wrapping_add(low))?;
         check_eq(settings.modulator(), modulator)?;
     }
