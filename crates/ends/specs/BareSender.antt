@@ -3,6 +3,8 @@ use mathlib.Core.List.{[]}
 use Rattle.std.specs.Vec.{listOf}
 use Rattle.ends.specs.declared.timing.Timing.{Timing}
 use Rattle.ends.specs.declared.bare_sender.BareSender.{BareSender}
+use Rattle.ends.specs.Times.{Times}
+use Rattle.ends.specs.Timed.{times-of}
 use Rattle.ends.specs.Shifts.{left-of}
 use Rattle.ends.specs.Sender.{SenderState}
 
@@ -16,5 +18,8 @@ meant s = record {
 }
 
 -- a bare sender with these times that has nothing to send
+abbrev pub resting : Times → SenderState
+resting t = record { format = t .format; lengths = t .lengths; capacity = 1; left = []; waiting = [] }
+
 abbrev pub at-rest : Timing → SenderState
-at-rest t = record { format = t .format; lengths = t .lengths; capacity = 1; left = []; waiting = [] }
+at-rest t = resting (times-of t)

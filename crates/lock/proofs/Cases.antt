@@ -1,11 +1,12 @@
 -- The worked cases, computed.
 use mathlib.Core.Path.{refl}
 use Rattle.std.specs.Iters.{counting}
+use Rattle.port.specs.Port.{samples}
 use Rattle.usart.specs.Usart.{lengths, power-within}
 use Rattle.lock.specs.Worked.{Worked}
 
 pub worked : Worked
-unfolding lengths power-within
+unfolding lengths power-within samples
 worked = record {
   lengths-at-6 = refl;
   lengths-at-54 = refl;
@@ -21,4 +22,9 @@ worked = record {
   break-after-60 = refl;
   no-break-after-59 = refl;
   false-start = refl;
+  fit-at-54-to-53 = refl;
+  fit-at-53-to-52 = refl;
+  fit-at-61-to-63 = refl;
+  fit-at-60-to-63 = refl;
+  fit-to-the-laptop = refl;
 }

@@ -14,8 +14,16 @@ use Rattle.line.specs.Levels.{low-bits}
 use Rattle.line.specs.Frames.{frame, parity-bits}
 use Rattle.ends.specs.Times.{Times, held}
 use Rattle.ends.specs.Receiver.{Entry}
+use Rattle.ends.specs.BareSender.{resting as sender-at}
 use Rattle.ends.specs.BareReceiver.{resting}
 use Rattle.ends.specs.Runs.{taken-down}
+use Rattle.std.specs.declared.result.Result.{Result}
+use Rattle.std.specs.declared.result.Result.the-variants.{Ok}
+use Rattle.line.specs.declared.refusal.Refusal.{Refusal}
+use Rattle.link.specs.declared.rates.Verdict.{Verdict}
+use Rattle.link.specs.declared.rates.Verdict.the-variants.{Passes, Early, Late}
+use Rattle.link.specs.Judging.{fit-answer}
+use Rattle.port.specs.Port.{port-times}
 use Rattle.usart.specs.Usart.{lengths, distance, usart-times}
 
 -- 8 data bits, no address bit, no parity, one stop bit
@@ -34,6 +42,10 @@ samples-of t k = take 3 (drop (3 * k) (t .samples))
 abbrev pub heard-at-3 : List Level → List Entry
 heard-at-3 ls = taken-down (resting (usart-times eight-n-one 3 0)) ls
 
+-- what Fit says of the lock's port, sending to its like
+abbrev pub fit-with-itself : ℕ → ℕ → Result Verdict Refusal
+fit-with-itself a b = fit-answer (sender-at (usart-times eight-n-one 6 0x6f)) (resting (usart-times eight-n-one 6 0x6f)) a b
+
 pub record Worked : Type 0 where
   pub lengths-at-6 : lengths 6 0x6f 8 ≡ 7 ∷ (7 ∷ (7 ∷ (7 ∷ (6 ∷ (7 ∷ (7 ∷ (6 ∷ [])))))))
   pub lengths-at-54 : lengths 54 0xd5 8 ≡ 55 ∷ (54 ∷ (55 ∷ (54 ∷ (55 ∷ (54 ∷ (55 ∷ (55 ∷ [])))))))
@@ -51,3 +63,9 @@ pub record Worked : Type 0 where
   pub break-after-60 : heard-at-3 (replicate 60 Space) ≡ (0, 4) ∷ ((0, 8) ∷ [])
   pub no-break-after-59 : heard-at-3 (replicate 59 Space) ≡ (0, 4) ∷ []
   pub false-start : heard-at-3 (Space ∷ (Mark ∷ (Mark ∷ []))) ≡ []
+  pub fit-at-54-to-53 : fit-with-itself 54 53 ≡ Ok Passes
+  pub fit-at-53-to-52 : fit-with-itself 53 52 ≡ Ok (Late 7)
+  pub fit-at-61-to-63 : fit-with-itself 61 63 ≡ Ok Passes
+  pub fit-at-60-to-63 : fit-with-itself 60 63 ≡ Ok (Early 6)
+  -- to a laptop's port with divider 24
+  pub fit-to-the-laptop : fit-answer (sender-at (usart-times eight-n-one 6 0x6f)) (resting (port-times eight-n-one 24)) 32768 1843200 ≡ Ok Passes
