@@ -1,9 +1,19 @@
 // The lock line bench: a lock's record drawn as its port sends it, and scanned back.
 mod flags;
 
+use ends::BareReceiver;
+use ends::BareReceiving;
+use ends::BareSender;
+use ends::BareSending;
+use ends::Kind;
 use ends::Timing;
 use flags::Flags;
 use flags::FlagsDisplay;
+use line::Format;
+use line::Refusal;
+use link::Link;
+use link::Verdict;
+use link::fit;
 use lock::CLOCK_HERTZ;
 use lock::DIVIDER;
 use lock::MODULATOR;
@@ -12,6 +22,12 @@ use picture::draw;
 use picture::hold_space;
 use picture::run_length;
 use picture::scan;
+use port::Port;
+use port::PortKind;
+use queue::ReceiveQueue;
+use queue::ReceiveQueueReceiving;
+use queue::SendQueue;
+use queue::SendQueueSending;
 use std::env;
 use std::error::AnyError;
 use std::io;
@@ -24,19 +40,35 @@ const SAMPLE: &str = "2026-11-17 08:59 opened, key 4";
 // No character of the lock's takes more clocks.
 const MOST_CLOCKS: usize = 4096 * 80;
 
-const HELP: &str = "usage: bench [table | demo [RECORD]]
+// A receive clock has as many parts as the lock's clock has periods in a second.
+const PARTS: u64 = CLOCK_HERTZ as u64;
+
+const LAPTOP_HERTZ: u32 = 1_843_200;
+
+// Ten in a hundred fast.
+const LAPTOP_OFF_HERTZ: u32 = 2_027_520;
+
+const LAPTOP_DIVIDER: u16 = 24;
+
+const HELP: &str = "usage: bench [table | demo [RECORD] | link [RECORD]]
 
   table   the settings that are built into locks, each with the baud rate that
           it truly gives and how far that is from the nominal one
   demo    draws a lock's record, a line of text, level by level as the lock's
           port sends it, scans the picture back, then spoils the picture in two
-          places and tells which characters carry which flags; without a
-          record it takes a sample
+          places and tells which characters carry which flags
+  link    joins the lock to a laptop, asks whether their rates fit, and hands a
+          record over clock by clock; then the same with a laptop whose clock
+          is off
 
-Without a word it does both.";
+Without a record it takes a sample, and without a word it does all of these.";
 
 fn main(rt: LibcRuntime) -> Result<(), AnyError> {
-    rt.report(run(&rt))
+    let done = run(&rt);
+    if let Err(error) = &done {
+        eprintln!(rt, "bench: {error}")?;
+    }
+    done
 }
 
 fn run(rt: &LibcRuntime) -> Result<(), AnyError> {
@@ -45,7 +77,9 @@ fn run(rt: &LibcRuntime) -> Result<(), AnyError> {
     let Some(word) = words.next() else {
         print_table(rt)?;
         println!(rt, "")?;
-        return demo(rt, SAMPLE);
+        demo(rt, SAMPLE)?;
+        println!(rt, "")?;
+        return join(rt, SAMPLE);
     };
     let record = words.next();
     if words.next().is_some() {
@@ -56,6 +90,8 @@ fn run(rt: &LibcRuntime) -> Result<(), AnyError> {
         ("table", None) => Ok(print_table(rt)?),
         ("demo", None) => demo(rt, SAMPLE),
         ("demo", Some(record)) => demo(rt, record.as_str()),
+        ("link", None) => join(rt, SAMPLE),
+        ("link", Some(record)) => join(rt, record.as_str()),
         _ => Err("unknown words; 'bench --help' says which there are".into()),
     }
 }
@@ -74,7 +110,7 @@ fn demo(rt: &LibcRuntime, record: &str) -> Result<(), AnyError> {
     println!(rt, "Scanned back: {count} characters")?;
     print_text(rt, entries.as_slice())?;
     println!(rt, "")?;
-    let clocks = picture.len() / record.len();
+    let clocks = picture.len() / record.len().max(1);
     spoil_two_places(rt, &timing, picture.as_mut_slice(), clocks)?;
     let spoiled = scanned(rt, &timing, picture.as_slice())?;
     let left = spoiled.len();
@@ -115,7 +151,7 @@ fn print_sent(rt: &LibcRuntime, record: &str, picture: &[u8]) -> Result<(), AnyE
         rt,
         "Port:    divider {DIVIDER}, modulator {MODULATOR:02X}h, 8N1, clocked at {CLOCK_HERTZ} Hz"
     )?;
-    let tenths = (clocks as u64).saturating_mul(10000) / CLOCK_HERTZ;
+    let tenths = (clocks as u64).saturating_mul(10000) / u64::from(CLOCK_HERTZ);
     let whole = tenths / 10;
     let tenth = tenths % 10;
     println!(
@@ -255,4 +291,115 @@ fn print_row(rt: &LibcRuntime, row: Row) -> io::Result<()> {
         off / 10,
         off % 10
     )
+}
+
+// A lock and two laptops, one of which has a clock that is off.
+fn join(rt: &LibcRuntime, record: &str) -> Result<(), AnyError> {
+    let Ok(lock) = lock_timing() else {
+        return Err("the lock's settings are out of range".into());
+    };
+    let Ok(laptop) = laptop_timing() else {
+        return Err("the laptop's settings are out of range".into());
+    };
+    println!(
+        rt,
+        "Lock:    divider {DIVIDER}, modulator {MODULATOR:02X}h, 8N1, clocked at {CLOCK_HERTZ} Hz"
+    )?;
+    println!(
+        rt,
+        "Laptop:  divider {LAPTOP_DIVIDER}, 8N1, clocked at {LAPTOP_HERTZ} Hz"
+    )?;
+    print_fit(rt, &lock, &laptop, LAPTOP_HERTZ)?;
+    let arrived = handed_over(rt, &lock, &laptop, record, LAPTOP_HERTZ)?;
+    print_arrived(rt, arrived.as_slice())?;
+    println!(rt, "")?;
+    println!(
+        rt,
+        "Laptop:  the same, but its clock is off: {LAPTOP_OFF_HERTZ} Hz"
+    )?;
+    print_fit(rt, &lock, &laptop, LAPTOP_OFF_HERTZ)?;
+    let arrived = handed_over(rt, &lock, &laptop, record, LAPTOP_OFF_HERTZ)?;
+    print_arrived(rt, arrived.as_slice())?;
+    Ok(())
+}
+
+fn laptop_timing() -> Result<Timing, Refusal> {
+    let format = Format::from_numbers(8, 0, 0, 1)?;
+    Port::timing(format, port::Settings::new(LAPTOP_DIVIDER)?)
+}
+
+fn print_fit(rt: &LibcRuntime, lock: &Timing, laptop: &Timing, hertz: u32) -> io::Result<()> {
+    let out = fit(
+        &BareSender::new(*lock),
+        &BareReceiver::new(*laptop),
+        CLOCK_HERTZ,
+        hertz,
+    );
+    print_verdict(rt, "lock to laptop", out)?;
+    let back = fit(
+        &BareSender::new(*laptop),
+        &BareReceiver::new(*lock),
+        hertz,
+        CLOCK_HERTZ,
+    );
+    print_verdict(rt, "laptop to lock", back)
+}
+
+fn print_verdict(rt: &LibcRuntime, way: &str, verdict: Result<Verdict, Refusal>) -> io::Result<()> {
+    match verdict {
+        Ok(Verdict::Passes) => println!(rt, "Fit:     {way}: passes"),
+        Ok(Verdict::Early(bit)) => println!(rt, "Fit:     {way}: bit {bit} is sampled too early"),
+        Ok(Verdict::Late(bit)) => println!(rt, "Fit:     {way}: bit {bit} is sampled too late"),
+        Err(refusal) => println!(rt, "Fit:     {way}: refused with {}", refusal.number()),
+    }
+}
+
+fn print_arrived(rt: &LibcRuntime, entries: &[(u16, u8)]) -> io::Result<()> {
+    let count = entries.len();
+    let bad = flagged(entries);
+    println!(rt, "Arrived: {count} characters, {bad} of them with a flag")?;
+    print_text(rt, entries)
+}
+
+fn flagged(entries: &[(u16, u8)]) -> usize {
+    let mut count = 0usize;
+    for entry in entries {
+        if entry.1 != 0 {
+            count = count.saturating_add(1);
+        }
+    }
+    count
+}
+
+// What the laptop reads of a record that the lock sends, while each clock runs at its own rate.
+fn handed_over(
+    rt: &LibcRuntime,
+    lock: &Timing,
+    laptop: &Timing,
+    record: &str,
+    hertz: u32,
+) -> Result<Vec<(u16, u8)>, AnyError> {
+    let sender = SendQueue::new(BareSender::new(*lock));
+    let receiver = ReceiveQueue::new(BareReceiver::new(*laptop));
+    let mut link = Link::join(sender, receiver);
+    let mut arrived = Vec::new(rt.alloc());
+    let text = record.as_bytes();
+    let mut next = 0;
+    // what the last receive clock came too early by, in parts of a receive clock
+    let mut owed = 0u32;
+    for _ in 0..text.len().saturating_add(2).saturating_mul(68) {
+        if next < text.len() && link.load(u16::from(text[next])).is_ok() {
+            next += 1;
+        }
+        let _ = link.send();
+        let parts = u64::from(owed).saturating_add(u64::from(hertz));
+        for _ in 0..parts / PARTS {
+            link.receive();
+        }
+        owed = (parts % PARTS) as u32;
+        if let Ok(entry) = link.read() {
+            arrived.push(entry)?;
+        }
+    }
+    Ok(arrived)
 }

@@ -28,7 +28,12 @@ use usart::Usart;
 use usart::UsartKind;
 
 // A port of this format at divider 6 and modulator 6Fh.
-fn usart_port(data_bits: u8, address_bits: u8, parity: u8, stop_bits: u8) -> Result<Timing, Refusal> {
+fn usart_port(
+    data_bits: u8,
+    address_bits: u8,
+    parity: u8,
+    stop_bits: u8,
+) -> Result<Timing, Refusal> {
     let format = Format::from_numbers(data_bits, address_bits, parity, stop_bits)?;
     Usart::timing(format, usart::Settings::new(6, 0x6f)?)
 }
@@ -44,12 +49,27 @@ fn loads(from: Timing, to: Timing, character: u16) -> Result<(), Refusal> {
 #[test]
 fn formats_that_differ_refuse_every_load() -> Result<(), Fail> {
     let plain = usart_port(8, 0, 0, 1)?;
-    check_eq(loads(plain, usart_port(7, 0, 0, 1)?, 0x41), Err(Refusal::FormatsDiffer))?;
-    check_eq(loads(plain, usart_port(8, 1, 0, 1)?, 0x41), Err(Refusal::FormatsDiffer))?;
-    check_eq(loads(plain, usart_port(8, 0, 2, 1)?, 0x41), Err(Refusal::FormatsDiffer))?;
+    check_eq(
+        loads(plain, usart_port(7, 0, 0, 1)?, 0x41),
+        Err(Refusal::FormatsDiffer),
+    )?;
+    check_eq(
+        loads(plain, usart_port(8, 1, 0, 1)?, 0x41),
+        Err(Refusal::FormatsDiffer),
+    )?;
+    check_eq(
+        loads(plain, usart_port(8, 0, 2, 1)?, 0x41),
+        Err(Refusal::FormatsDiffer),
+    )?;
     // before the character is looked at
-    check_eq(loads(plain, usart_port(7, 0, 0, 1)?, 0x100), Err(Refusal::FormatsDiffer))?;
-    check_eq(loads(plain, usart_port(8, 0, 0, 2)?, 0x100), Err(Refusal::TooWide))?;
+    check_eq(
+        loads(plain, usart_port(7, 0, 0, 1)?, 0x100),
+        Err(Refusal::FormatsDiffer),
+    )?;
+    check_eq(
+        loads(plain, usart_port(8, 0, 0, 2)?, 0x100),
+        Err(Refusal::TooWide),
+    )?;
     check_eq(loads(plain, usart_port(8, 0, 0, 2)?, 0x41), Ok(()))
 }
 
@@ -60,8 +80,14 @@ fn rates_out_of_range_are_refused_first() -> Result<(), Fail> {
     let other = BareReceiver::new(usart_port(7, 0, 0, 1)?);
     check_eq(fit(&sender, &other, 0, 1), Err(Refusal::OutOfRange))?;
     check_eq(fit(&sender, &other, 1, 16777217), Err(Refusal::OutOfRange))?;
-    check_eq(fit(&sender, &other, 16777216, 16777216), Err(Refusal::FormatsDiffer))?;
-    check_eq(fit(&sender, &BareReceiver::new(plain), 16777216, 16777216), Ok(Verdict::Passes))
+    check_eq(
+        fit(&sender, &other, 16777216, 16777216),
+        Err(Refusal::FormatsDiffer),
+    )?;
+    check_eq(
+        fit(&sender, &BareReceiver::new(plain), 16777216, 16777216),
+        Ok(Verdict::Passes),
+    )
 }
 
 #[test]
@@ -73,7 +99,10 @@ fn rates_fit_or_are_early_or_late() -> Result<(), Fail> {
     check_eq(fit(&sender, &receiver, 53, 52), Ok(Verdict::Late(7)))?;
     check_eq(fit(&sender, &receiver, 61, 63), Ok(Verdict::Passes))?;
     check_eq(fit(&sender, &receiver, 60, 63), Ok(Verdict::Early(6)))?;
-    check_eq(fit(&sender, &BareReceiver::new(laptop_port()?), 32768, 1843200), Ok(Verdict::Passes))
+    check_eq(
+        fit(&sender, &BareReceiver::new(laptop_port()?), 32768, 1843200),
+        Ok(Verdict::Passes),
+    )
 }
 
 fn is_refused(answer: Answer, with: Refusal) -> bool {
@@ -123,7 +152,10 @@ fn a_link_delivers_after_noise_and_quiet() -> Result<(), Fail> {
 #[test]
 fn queues_on_both_ends_overrun_the_newest() -> Result<(), Fail> {
     let plain = usart_port(8, 0, 0, 1)?;
-    let mut link = Link::join(SendQueue::new(BareSender::new(plain)), ReceiveQueue::new(BareReceiver::new(plain)));
+    let mut link = Link::join(
+        SendQueue::new(BareSender::new(plain)),
+        ReceiveQueue::new(BareReceiver::new(plain)),
+    );
     for character in 0..18 {
         // seventeen wait at the most: the first goes on the line
         check_eq(link.load(character), Ok(()))?;

@@ -15,7 +15,7 @@ use usart::Settings;
 use usart::Usart;
 use usart::UsartKind;
 
-pub const CLOCK_HERTZ: u64 = 32768;
+pub const CLOCK_HERTZ: u32 = 32768;
 
 pub const DIVIDER: u16 = 6;
 
