@@ -8,6 +8,7 @@ use native.Mathlib.Omega.{arith}
 use lib.ListN.{length, take, getD}
 use Rattle.std.proofs.shelf.Bits.{div-below, le-div}
 use Rattle.std.proofs.shelf.Tests.{cases-lt}
+use Rattle.line.specs.declared.format.Format.{Format}
 use Rattle.line.specs.Frames.{first-stop}
 use Rattle.ends.specs.Times.{sum, start-of}
 use Rattle.ends.specs.Sender.{SenderState, SoundSender}
@@ -16,7 +17,7 @@ use Rattle.link.specs.Link.{LinkState}
 use Rattle.link.specs.History.{History, history}
 use Rattle.link.specs.Sampling.{Holds, Edge, SampledFrame}
 use Rattle.link.specs.Delivery.{Sampled}
-use Rattle.link.specs.Fit.{Early, Late, steady, Fits, Meets, Fitting, Steady, SteadyDelivers}
+use Rattle.link.specs.Fit.{Early, Late, steady, Fits, Meets, Fitting, Steady, Like, SteadyDelivers}
 use Rattle.link.proofs.Reach.{quiet-rests}
 use Rattle.link.proofs.Run.{Promised, resting, rest-delivers}
 use Rattle.ends.proofs.Held.{sum-mono}
@@ -219,8 +220,21 @@ steady-sampled m a b p h some phase fits st i k =
     (λ j z. sym (st .clocks j z)) (st .so-far)
     (meets (m .sender) (m .receiver) a b some fits p (getD (h .begun) i 0) (length (h .given)) phase)
 
-pub steady-delivers : SteadyDelivers
-steady-delivers m oks okr rest a b p some phase fits before since quiet nl =
+-- what fits these ends fits ends that are like them
+fits-like : (m : LinkState) (s : SenderState) (r : ReceiverState) (a b : ℕ) → Like m s r → Fits s r a b → Fits (m .sender) (m .receiver) a b
+fits-like m s r a b like fits k h =
+    let first : first-sample (m .receiver) k ≡ first-sample r k = ap (λ (l : List ℕ). getD l (3 * k) 0) (like .samples) in
+    let third : third-sample (m .receiver) k ≡ third-sample r k = ap (λ (l : List ℕ). getD l (3 * k + 2) 0) (like .samples) in
+    let begin : start-of (m .sender .lengths) k ≡ start-of (s .lengths) k = ap (λ (l : List ℕ). start-of l k) (like .lengths) in
+    let end : start-of (m .sender .lengths) (k + 1) ≡ start-of (s .lengths) (k + 1) = ap (λ (l : List ℕ). start-of l (k + 1)) (like .lengths) in
+    let good = fits k (subst (λ (f : Format). k ≤ first-stop f) (like .format) h) in (
+      (λ early. good .0 (omega (arith, early, ap (λ (x : ℕ). x * a) first, ap (λ (x : ℕ). x * b) begin))),
+      (λ late. good .1 (omega (arith, late, ap (λ (x : ℕ). (x + 1) * a) third, ap (λ (x : ℕ). x * b) end))),
+    )
+
+pub steady-delivers : (s : SenderState) (r : ReceiverState) (a b : ℕ) → 0 < b → Fits s r a b → SteadyDelivers s r a b
+steady-delivers s r a b some fits₀ m like oks okr rest p phase before since quiet nl =
+    let fits = fits-like m s r a b like fits₀ in
     let x : LinkState = resting m in
     subst (λ (y : LinkState). Steady a b p (history y since) → Promised since y) (sym (quiet-rests m oks okr rest before quiet))
     (λ st. rest-delivers m oks okr since nl (steady-sampled x a b p (history x since) some phase fits st))

@@ -43,12 +43,17 @@ pub record Steady (a b p : ℕ) (h : History) : Type 0 where
   pub clocks : (r : ℕ) → r < length (h .given) → getD (h .given) r 0 ≡ steady a b p r
   pub so-far : h .sends ≤ steady a b p (length (h .given))
 
--- From a moment at which a link is quiet, acts with no noise deliver if the clocks are steady, at rates that fit. A phase below a + b
--- lets as many send clocks come before the first receive clock as come between two of them.
-abbrev pub SteadyDelivers : Type 0
-SteadyDelivers = (m : LinkState) → SoundSender (m .sender) → SoundReceiver (m .receiver) → AtRest m
-    → (a b p : ℕ) → 0 < b → p < a + b → Fits (m .sender) (m .receiver) a b
-    → (before since : List Act) → Quiet m before → Noiseless since
+-- the ends of a link have the lengths, samples and format of these
+pub record Like (m : LinkState) (s : SenderState) (r : ReceiverState) : Type 0 where
+  pub lengths : m .sender .lengths ≡ s .lengths
+  pub samples : m .receiver .samples ≡ r .samples
+  pub format : m .receiver .format ≡ r .format
+
+-- On a link of such ends, joined at rest, acts with no noise deliver from any quiet moment on if the clocks are steady, a send clocks to b
+-- receive clocks. A phase below a + b lets as many send clocks come before the first receive clock as come between two of them.
+abbrev pub SteadyDelivers : SenderState → ReceiverState → ℕ → ℕ → Type 0
+SteadyDelivers s r a b = (m : LinkState) → Like m s r → SoundSender (m .sender) → SoundReceiver (m .receiver) → AtRest m
+    → (p : ℕ) → p < a + b → (before since : List Act) → Quiet m before → Noiseless since
     → let here : LinkState = after m before in
     Steady a b p (history here since)
     → Delivered here (history here since) × (noted-entries (history here since) ≡ read-answers here since)

@@ -31,7 +31,7 @@ pub fn fit<S: Sender, R: Receiver>(
 ) -> Result<Verdict, Refusal>
     ensures answer { λ r. ⌜ r ≡ fit-answer (S·Sender .meaning (now (sender .entry))) (R·Receiver .meaning (now (receiver .entry))) «send_rate» «receive_rate» ⌝ }
     ensures exactly { λ r. ⌜ Cases r (λ f. (f ≡ Passes → Meets (S·Sender .meaning (now (sender .entry))) (R·Receiver .meaning (now (receiver .entry))) «send_rate» «receive_rate») × (Meets (S·Sender .meaning (now (sender .entry))) (R·Receiver .meaning (now (receiver .entry))) «send_rate» «receive_rate» → f ≡ Passes)) (λ _. Unit {0}) ⌝ }
-    ensures delivers { λ _. ⌜ SteadyDelivers ⌝ }
+    ensures delivers { λ r. ⌜ Cases r (λ f. f ≡ Passes → SteadyDelivers (S·Sender .meaning (now (sender .entry))) (R·Receiver .meaning (now (receiver .entry))) «send_rate» «receive_rate») (λ _. Unit {0}) ⌝ }
 {
     if !in_range(send_rate) {
         return Err(Refusal::OutOfRange);

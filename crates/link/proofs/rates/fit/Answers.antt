@@ -38,7 +38,7 @@ returns-then-not-in-range g c =
     record {
       answer = ap {B = Outcome} (λ x. outcome x (rate-in-range b) (agree (s .format) (r .format)) (judged s r a b 0 (1 + first-stop (r .format)))) (c .if-not-in-range .ensures tt);
       exactly = tt;
-      delivers = steady-delivers;
+      delivers = tt;
     }
 
 pub returns-then-not-in-range-2 : need.returns-then-not-in-range-2
@@ -52,7 +52,7 @@ returns-then-not-in-range-2 g c =
       answer = second-out (rate-in-range a) (agree (s .format) (r .format)) v
           ∙ ap {B = Outcome} (λ x. outcome (rate-in-range a) x (agree (s .format) (r .format)) v) (c .if-not-in-range-2 .ensures tt);
       exactly = tt;
-      delivers = steady-delivers;
+      delivers = tt;
     }
 
 -- both rates are in range
@@ -71,7 +71,7 @@ returns-then-not-agrees g c =
           (judged s r (c .args .send-rate) (c .args .receive-rate) 0 (1 + first-stop (r .format)))
           (c .if-not-in-range .ensures tt) (c .if-not-in-range-2 .ensures tt) (c .format .ensures) (c .format-2 .ensures) (c .if-not-agrees .ensures tt .test);
       exactly = tt;
-      delivers = steady-delivers;
+      delivers = tt;
     }
 
 some-rate : (a : ℕ) → true ≡ rate-in-range a → 0 < a
@@ -91,5 +91,5 @@ returns g c =
           ∙ reached a b (c .format .result) (c .format-2 .result) (s .format) (r .format) true (judged s r a b 0 (1 + first-stop (r .format)))
           ra rb (c .format .ensures) (c .format-2 .ensures) (c .if-not-agrees .ensures tt .test);
       exactly = ((λ e. law .0 (passes-fits s r a b (sym (c .judge .ensures) ∙ e))), (λ meets. c .judge .ensures ∙ fits-passes s r a b (law .1 meets)));
-      delivers = steady-delivers;
+      delivers = λ e. steady-delivers s r a b (some-rate b rb) (passes-fits s r a b (sym (c .judge .ensures) ∙ e));
     }
