@@ -1,7 +1,7 @@
 // What is done to a link.
 ghost use mathlib.Core.Path.{_≡_};
 ghost use mathlib.Core.List.{_++_};
-ghost use Prim.Native.Nat.{_<_};
+ghost use Prim.Native.Nat.{_<_, _≤_};
 ghost use lib.ListN.{length, drop};
 ghost use Rattle.std.specs.Results.{Cases};
 ghost use Rattle.line.specs.declared.level.Level.the-variants.{Mark};
@@ -101,7 +101,7 @@ impl<S: Sender, R: Receiver> Link<S, R> {
 
     // Does the acts one after the other and writes down what each answers; answers how many there were.
     pub fn run(&mut self, acts: &[Act], answers: &mut [Answer]) -> Result<usize, Refusal>
-        ensures answer { λ r. ⌜ Cases r (λ n. n ≡ length (now (acts .entry))) (λ e. (e ≡ TooShort) × (length (now (answers .entry)) < length (now (acts .entry)))) ⌝ }
+        ensures answer { λ r. ⌜ Cases r (λ n. (n ≡ length (now (acts .entry))) × (length (now (acts .entry)) ≤ length (now (answers .entry)))) (λ e. (e ≡ TooShort) × (length (now (answers .entry)) < length (now (acts .entry)))) ⌝ }
         ensures answers { λ r. ⌜ Cases r (λ n. now (answers .exit) ≡ all-answers (link-of (S·Sender .meaning) (R·Receiver .meaning) (now (self .entry))) (now (acts .entry)) ++ drop n (now (answers .entry))) (λ _. now (answers .exit) ≡ now (answers .entry)) ⌝ }
         ensures state { λ r. ⌜ Cases r (λ _. link-of (S·Sender .meaning) (R·Receiver .meaning) (now (self .exit)) ≡ after (link-of (S·Sender .meaning) (R·Receiver .meaning) (now (self .entry))) (now (acts .entry))) (λ _. now (self .exit) ≡ now (self .entry)) ⌝ }
         ensures reads { λ _. ⌜ told (all-answers (link-of (S·Sender .meaning) (R·Receiver .meaning) (now (self .entry))) (now (acts .entry))) ≡ read-answers (link-of (S·Sender .meaning) (R·Receiver .meaning) (now (self .entry))) (now (acts .entry)) ⌝ }

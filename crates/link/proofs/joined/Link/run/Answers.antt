@@ -29,7 +29,7 @@ loop-i-again g c = (
 
 pub returns : need.returns
 returns g c = record {
-  answer = refl;
+  answer = (refl, omega arith);
   answers = answers-all _ (c .args .acts .now) (c .loop-i .i) (c .args .answers .now) (c .loop-i .answers) (c .loop-i-test .left) (omega arith) (c .loop-i .inv .1);
   state = state-all _ (c .args .acts .now) (c .loop-i .i) _ (c .loop-i-test .left) (c .loop-i .inv .0);
   reads = reads-told _ (c .args .acts .now);
