@@ -1,4 +1,7 @@
 // The lock line bench.
+
+#![tactic(auto)]
+
 mod capture;
 mod drawing;
 mod fitting;

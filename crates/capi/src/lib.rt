@@ -1,4 +1,7 @@
 // The bench for programs in other languages: C functions over plain numbers, each with a refusal's number as its answer, 0 for none.
+
+#![tactic(auto)]
+
 pub mod drawing;
 pub mod fitting;
 pub mod numbers;

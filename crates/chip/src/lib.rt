@@ -1,4 +1,7 @@
 // The USART's eight registers over its two ends.
+
+#![tactic(auto)]
+
 pub mod address;
 pub mod bits;
 pub mod chip;

@@ -1,4 +1,7 @@
 // Holds the library against a second emulator, written from its documents by another method: from absolute times.
+
+#![tactic(auto)]
+
 mod acts;
 mod address;
 mod chips;

@@ -1,4 +1,7 @@
 // What any sender and any receiver mean, and the two that run on a table of times.
+
+#![tactic(auto)]
+
 pub mod bare_receiver;
 pub mod bare_sender;
 pub mod doing;

@@ -1,4 +1,7 @@
 // Examples of the rules, with values worked out by hand, run against the library.
+
+#![tactic(auto)]
+
 #[cfg(test)]
 mod chips;
 #[cfg(test)]

@@ -1,4 +1,7 @@
 // The words of a serial line: levels, formats, characters, frames and refusals.
+
+#![tactic(auto)]
+
 pub mod format;
 pub mod level;
 pub mod refusal;

@@ -1,4 +1,7 @@
 // A sender and a receiver joined by a line, what is done to them, and which rates fit.
+
+#![tactic(auto)]
+
 pub mod act;
 pub mod acting;
 pub mod joined;

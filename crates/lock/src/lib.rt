@@ -1,4 +1,7 @@
 // The lock's own port: the settings that are built into it, and cases of the rules worked out by hand.
+
+#![tactic(auto)]
+
 ghost use Rattle.std.specs.Prelude.{◌≡◌, Ok};
 ghost use Rattle.ends.specs.Timed.{answered};
 ghost use Rattle.usart.specs.Usart.{usart_times};

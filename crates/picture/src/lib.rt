@@ -1,4 +1,7 @@
 // Pictures of a line: one byte for each clock, 0 for space and 1 for mark.
+
+#![tactic(auto)]
+
 pub mod drawing;
 pub mod runs;
 pub mod scanner;

@@ -1,4 +1,7 @@
 // The laptop's service port: its settings, and the times that they give.
+
+#![tactic(auto)]
+
 pub mod port;
 pub mod settings;
 

@@ -1,4 +1,7 @@
 // Queues of sixteen, in front of any sender and behind any receiver.
+
+#![tactic(auto)]
+
 pub mod holding;
 pub mod receive_queue;
 pub mod ring;

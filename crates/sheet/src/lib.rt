@@ -1,4 +1,7 @@
 // What the settings sheet is made of: the divider a laptop takes for a baud rate, and how far a clock may be off before Fit no longer passes.
+
+#![tactic(auto)]
+
 pub mod divider;
 pub mod tolerance;
 

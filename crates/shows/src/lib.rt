@@ -1,4 +1,7 @@
 // What the bench shows of its parts: a record drawn and scanned, a lock joined to laptops, the table of settings, a chip driven by firmware, the settings sheet.
+
+#![tactic(auto)]
+
 pub mod firmware;
 pub mod flags;
 pub mod named_ends;

@@ -1,4 +1,7 @@
 // Shows every part once: the settings sheet, and the others on a sample record.
+
+#![tactic(auto)]
+
 use line::{DataBits, Format, Parity, StopBits};
 use shows::{demo, drive, join, print_sheet, print_table};
 

@@ -1,4 +1,7 @@
 // The USART's settings, the times that they give, and the settings that are built into locks.
+
+#![tactic(auto)]
+
 pub mod built;
 pub mod settings;
 pub mod usart;

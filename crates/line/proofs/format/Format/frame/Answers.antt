@@ -10,15 +10,15 @@ pub returns : goal.returns
 returns c =
     let f = c.args.self in
     let n : ℕ = c.characters-characters.result in
-    let stops : c.parity-values.result * c.stop-digits.result ≤ 2 * 3 =
-    mul-le c.parity-values.result c.stop-digits.result 2 3 c.parity-values.ensures.bound c.stop-digits.ensures.bound in
-    let above : ℕ = c.parity-bit.result + c.parity-values.result * c.stop-digits.result in
+    let stops : c.parity_values.result * c.stop_digits.result ≤ 2 * 3 =
+    mul-le c.parity_values.result c.stop_digits.result 2 3 c.parity_values.ensures.bound c.stop_digits.ensures.bound in
+    let above : ℕ = c.parity_bit.result + c.parity_values.result * c.stop_digits.result in
     let most : n * above ≤ 512 * 7 = mul-le n above 512 7 c.characters-characters.ensures.bound (omega arith) in
     record {
       value =
           ap₂ (λ (n m : ℕ). 2 * (c.args.character % n + n * m)) c.characters-characters.ensures.value
-          (ap₂ (λ (p d : ℕ). p + d * c.stop-digits.result) c.parity-bit.ensures.value c.parity-values.ensures.value
-          ∙ ap (λ (s : ℕ). number (parity_bits f.parity (low_bits (width f) c.args.character)) + 2 ^ parity_count f.parity * s) c.stop-digits.ensures.value)
+          (ap₂ (λ (p d : ℕ). p + d * c.stop_digits.result) c.parity_bit.ensures.value c.parity_values.ensures.value
+          ∙ ap (λ (s : ℕ). number (parity_bits f.parity (low_bits (width f) c.args.character)) + 2 ^ parity_count f.parity * s) c.stop_digits.ensures.value)
           ∙ sym (frame_number f c.args.character);
       bound = omega (arith, mod_below c.args.character n (omega (arith, pow_pos (width f), c.characters-characters.ensures.value)));
     }
