@@ -1,16 +1,14 @@
 -- A frame that is sampled inside its bits arrives.
-use Rattle.std.proofs.Common.{◌≡◌, ℕ, zero, suc, ◌+◌, ◌*◌, ◌^◌, ◌<◌, ◌≤◌, List, [], ◌∷◌, ◌++◌, length, get_or, take, drop, replicate, sym, refl, ap, ◌∙◌, subst, ap₂, inl, inr, ⊎_elim, append-nil, not-suc-le-zero, arith, length-append, get_or-drop, drop-cons}
+use Rattle.std.proofs.Common.{◌≡◌, ℕ, zero, suc, ◌+◌, ◌*◌, ◌^◌, ◌<◌, ◌≤◌, List, [], ◌∷◌, ◌++◌, length, get_or, drop, replicate, sym, refl, ap, ◌∙◌, ap₂, ⊎_elim, append-nil, not-suc-le-zero, arith, length-append, get_or-drop, drop-cons}
 use lib.ListN.{length-replicate}
-use Rattle.std.proofs.lemmas.Bool.{cases_lt}
 use Rattle.line.specs.declared.level.Level.{Level}
 use Rattle.line.specs.declared.level.Level.TheVariants.{Space, Mark}
-use Rattle.line.specs.declared.format.Format.{Format}
 use Rattle.line.specs.Formats.{Agree}
 use Rattle.line.specs.Frames.{width, first_stop, stop_count, frame}
-use Rattle.line.proofs.Bits.{through, through_length, frame_through, frame_length, frame_fits, frame_stops, agree_first_stop, agree_through, width_least, stop_some}
-use Rattle.ends.specs.Times.{Inside, start_of, sum, held, samples_per_frame}
+use Rattle.line.proofs.Bits.{through, through_length, frame_through, frame_length, frame_fits, frame_stops, agree_first_stop, agree_through, stop_some}
+use Rattle.ends.specs.Times.{Inside, start_of, samples_per_frame}
 use Rattle.ends.specs.Sender.{SenderState, SoundSender, frame_levels}
-use Rattle.ends.specs.Receiver.{ReceiverState, SoundReceiver, Entry, Doing, idle, framing, counting, Heard, nothing, heard, hears, heard_in_frame, after_clock, with, decided, going_on, taken_now, falling_on, falling_before, first_sample, third_sample, last_sample, entry_of, after_frame, arrive}
+use Rattle.ends.specs.Receiver.{ReceiverState, SoundReceiver, Entry, Doing, idle, framing, counting, Heard, nothing, heard, heard_in_frame, with, decided, going_on, taken_now, falling_on, falling_before, first_sample, third_sample, last_sample, entry_of, after_frame, arrive}
 use Rattle.ends.specs.Runs.{taken_down, Sent, transmission, AllNarrow, clean, Hears}
 use Rattle.ends.proofs.Held.{level_at, held_length, marks_from, sum_mono}
 use Rattle.ends.specs.Sampling.{Taken, Taking, sound_rising, taken_more, decided_all, decided_first, before_zero, before_more, all_by_last, not_all_before}

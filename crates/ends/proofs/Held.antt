@@ -1,5 +1,5 @@
 -- Each bit held for its length: where a bit's level stands in the levels of a frame.
-use Rattle.std.proofs.Common.{◌≡◌, ℕ, zero, suc, ◌+◌, ◌-◌, ◌<◌, ◌≤◌, List, [], ◌∷◌, ◌++◌, length, get_or, take, drop, replicate, sym, refl, ap, ◌∙◌, le_of_suc-le-suc, not-suc-le-zero, arith, length-append, length-drop, get_or-drop, drop-drop, drop_at}
+use Rattle.std.proofs.Common.{◌≡◌, ℕ, zero, suc, ◌+◌, ◌-◌, ◌<◌, ◌≤◌, List, [], ◌∷◌, ◌++◌, length, get_or, take, drop, replicate, sym, refl, ap, ◌∙◌, le_of_suc-le-suc, not-suc-le-zero, arith, length-append, get_or-drop, drop-drop, drop_at}
 use lib.ListN.{length-replicate, get_or-replicate}
 use lib.Seq.{drop-nil}
 use Rattle.std.proofs.lemmas.List.{get_or_append_left, get_or-append_right}

@@ -6,7 +6,7 @@ use Rattle.line.specs.declared.level.Level.{Level}
 use Rattle.line.specs.declared.level.Level.TheVariants.{Space, Mark}
 use Rattle.line.specs.declared.format.Format.{Format}
 use Rattle.line.specs.Frames.{first_stop}
-use Rattle.ends.specs.Receiver.{ReceiverState, Entry, Doing, idle, framing, counting, Heard, nothing, heard, hears, heard_in_frame, after_frame, entry_of, decided, going_on, arrive, after_clock, after_read, oldest, without_oldest, with, taken_now}
+use Rattle.ends.specs.Receiver.{ReceiverState, Entry, Doing, idle, framing, counting, nothing, heard, hears, heard_in_frame, after_frame, entry_of, decided, going_on, arrive, after_clock, after_read, oldest, without_oldest, with, taken_now}
 use Rattle.ends.specs.Runs.{taken_down}
 use Rattle.ends.proofs.Arriving.{taken_by_parts}
 

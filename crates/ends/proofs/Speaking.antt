@@ -4,7 +4,6 @@ use Rattle.std.proofs.lemmas.List.{append_assoc, drop_more, set_at}
 use lib.Seq.{drop-nil}
 use Rattle.line.specs.declared.level.Level.{Level}
 use Rattle.line.specs.declared.level.Level.TheVariants.{Mark}
-use Rattle.line.specs.declared.format.Format.{Format}
 use Rattle.line.specs.Frames.{frame}
 use Rattle.ends.specs.Times.{held}
 use Rattle.ends.specs.Sender.{SenderState, SoundSender, frame_levels, frames, holding, first_of, rest_of, sent, after_send}

@@ -7,7 +7,7 @@ use Rattle.line.specs.Formats.{Agree}
 use Rattle.line.specs.Frames.{width, first_stop}
 use Rattle.ends.specs.Times.{Inside}
 use Rattle.ends.specs.Sender.{SenderState, SoundSender, frame_levels, frames, sent, after_send}
-use Rattle.ends.specs.Receiver.{ReceiverState, SoundReceiver, Entry, idle, hears, after_clock}
+use Rattle.ends.specs.Receiver.{ReceiverState, Entry, hears, after_clock}
 
 -- the sender after n clocks
 abbrev pub after_sends : SenderState → ℕ → SenderState

@@ -1,5 +1,5 @@
 -- The samples that a bare receiver holds.
-use Rattle.std.specs.Prelude.{ℕ, ◌+◌, List, [], take}
+use Rattle.std.specs.Prelude.{ℕ, ◌+◌, List, take}
 use Rattle.line.specs.declared.level.Level.{Level}
 use Rattle.ends.specs.declared.samples.Samples.{Samples}
 use Rattle.ends.specs.declared.doing.Doing.{Doing}

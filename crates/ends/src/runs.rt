@@ -10,9 +10,9 @@ use line::Level;
 
 // Clocks a sender once for each place of the list and writes down what it answers.
 pub fn send<S: Sender>(sender: &mut S, levels: &mut [Level])
-    ensures levels { levels.new ≡ spoken (meaning sender.old) (length levels.old) }
-    ensures state { meaning sender.new ≡ after_sends (meaning sender.old) (length levels.old) }
-    ensures due { (n : ℕ) → Sends (meaning sender.old) n }
+    ensures levels { levels.new ≡ spoken (S.meaning sender.old) (length levels.old) }
+    ensures state { S.meaning sender.new ≡ after_sends (S.meaning sender.old) (length levels.old) }
+    ensures due { (n : ℕ) → Sends (S.meaning sender.old) n }
 {
     for i in 0..levels.len() {
         levels[i] = sender.clock();
@@ -21,8 +21,8 @@ pub fn send<S: Sender>(sender: &mut S, levels: &mut [Level])
 
 // Clocks a receiver once for each level of the list.
 pub fn hear<R: Receiver>(receiver: &mut R, levels: &[Level])
-    ensures state { meaning receiver.new ≡ after_levels (meaning receiver.old) levels.now }
-    ensures hears { (meaning receiver.old).previous ≡ Mark → (meaning receiver.old).doing ≡ idle → Hears (meaning receiver.old) }
+    ensures state { R.meaning receiver.new ≡ after_levels (R.meaning receiver.old) levels.now }
+    ensures hears { (R.meaning receiver.old).previous ≡ Mark → (R.meaning receiver.old).doing ≡ idle → Hears (R.meaning receiver.old) }
 {
     for level in levels {
         receiver.clock(*level);

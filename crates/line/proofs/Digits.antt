@@ -1,14 +1,10 @@
 -- Lists of levels as binary numbers.
-use Rattle.std.proofs.Common.{◌≡◌, ℕ, zero, suc, ◌+◌, ◌*◌, ◌/◌, ◌%◌, ◌^◌, ◌<◌, List, [], ◌∷◌, ◌++◌, length, take, drop, sym, refl, ap, ◌∙◌, subst, ap₂, le_of_suc-le-suc, not-suc-le-zero, mul_assoc, mul_comm, pow-suc, arith, pow_pos}
+use Rattle.std.proofs.Common.{◌≡◌, ℕ, zero, suc, ◌+◌, ◌*◌, ◌/◌, ◌%◌, ◌^◌, ◌<◌, List, [], ◌∷◌, ◌++◌, length, take, drop, sym, refl, ap, ◌∙◌, ap₂, le_of_suc-le-suc, not-suc-le-zero, mul_assoc, mul_comm, pow-suc, arith, pow_pos}
 use lib.Arith.{mod-mul}
 use lib.Count.{ones, ones_step}
 use Rattle.std.proofs.lemmas.Nat.{shr-shr}
 use Rattle.line.specs.declared.level.Level.{Level}
 use Rattle.line.specs.declared.level.Level.TheVariants.{Space, Mark}
-use Rattle.line.specs.declared.format.Parity.{Parity}
-use Rattle.line.specs.declared.format.Parity.TheVariants.{Absent, Odd, Even}
-use Rattle.line.specs.declared.format.Format.{Format}
-use Rattle.line.specs.Frames.{width, parity_count, stop_count, parity_bits, frame}
 use Rattle.line.specs.Levels.{level_of, low_bits, number, marks}
 
 pub low_length : (n c : ℕ) → length (low_bits n c) ≡ n

@@ -8,7 +8,7 @@ use Rattle.lock.proofs.lock_timing.Goals as goal
 
 pub returns : goal.returns
 returns c =
-    let made = c.in-ok-new.ensures in
+    let made = c.in_ok-new.ensures in
     record {
       times = c.timing.ensures.times ∙ ap₂ {C = Result Times Refusal} (λ u m. Ok (usart_times eight_n_one u m)) made.1 made.2;
       worked = worked;

@@ -30,19 +30,19 @@ Delivers a b r x y = IfOk r (λ f. f ≡ Passes → SteadyDelivers x y a b)
 
 pub returns : goal.returns
 returns c =
-    let a : ℕ = c.args.send-rate in
-    let b : ℕ = c.args.receive-rate in
+    let a : ℕ = c.args.send_rate in
+    let b : ℕ = c.args.receive_rate in
     let s = end_times c.args.sender.now in
     let r = end_times c.args.receiver.now in
-    let t : Times = times_of c.in-ok-timing.field-0 in
-    let u : Times = times_of c.in-ok-timing-2.field-0 in
+    let t : Times = times_of c.in_ok-timing.field-0 in
+    let u : Times = times_of c.in_ok-timing-2.field-0 in
     let v : Outcome = c.fit.result in
     let sends = c.new-sends.ensures in
     let receives = c.new-receives.ensures in
     record {
       answer = c.fit.ensures.answer
           ∙ ap₂ {C = Outcome} (λ (x : SenderState) (y : ReceiverState). fit_answer x y a b) sends receives
-          ∙ ap₂ {C = Outcome} (λ (p q : Result Times Refusal). then p (λ t. then q (λ u. fit_answer (sender_at t) (receiver_at u) a b))) c.in-ok-timing.ensures c.in-ok-timing-2.ensures;
-      exactly = of_two (ExactlyAt a b v) s r t u c.in-ok-timing.ensures c.in-ok-timing-2.ensures (moved (Exact a b v) _ _ _ _ sends receives c.fit.ensures.exactly);
-      delivers = of_two (DeliveringAt a b v) s r t u c.in-ok-timing.ensures c.in-ok-timing-2.ensures (moved (Delivers a b v) _ _ _ _ sends receives c.fit.ensures.delivers);
+          ∙ ap₂ {C = Outcome} (λ (p q : Result Times Refusal). then p (λ t. then q (λ u. fit_answer (sender_at t) (receiver_at u) a b))) c.in_ok-timing.ensures c.in_ok-timing-2.ensures;
+      exactly = of_two (ExactlyAt a b v) s r t u c.in_ok-timing.ensures c.in_ok-timing-2.ensures (moved (Exact a b v) _ _ _ _ sends receives c.fit.ensures.exactly);
+      delivers = of_two (DeliveringAt a b v) s r t u c.in_ok-timing.ensures c.in_ok-timing-2.ensures (moved (Delivers a b v) _ _ _ _ sends receives c.fit.ensures.delivers);
     }

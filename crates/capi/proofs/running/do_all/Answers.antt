@@ -10,8 +10,8 @@ loop-i-preserved g c =
     let acts = c.args.acts.now in
     let m : LinkState = link_of g.S.Sender.meaning g.R.Receiver.meaning c.loop-i.link in (
       state_more _ acts c.loop-i.i _ _ _ c.loop-i-test.true c.loop-i.invariant.0 (c.act-in-loop-i.ensures.state ∙ ap (after_act m) c.act.ensures),
-      answers_more _ acts c.loop-i.i _ _ c.args.answers.now c.loop-i.answers c.numbers-of.result c.loop-i-test.true (omega arith) c.loop-i.invariant.0
-          (c.numbers-of.ensures ∙ ap told_answer (c.act-in-loop-i.ensures.answer ∙ ap (answer m) c.act.ensures)) c.loop-i.invariant.1,
+      answers_more _ acts c.loop-i.i _ _ c.args.answers.now c.loop-i.answers c.numbers_of.result c.loop-i-test.true (omega arith) c.loop-i.invariant.0
+          (c.numbers_of.ensures ∙ ap told_answer (c.act-in-loop-i.ensures.answer ∙ ap (answer m) c.act.ensures)) c.loop-i.invariant.1,
     )
 
 pub returns : goal.returns

@@ -10,7 +10,7 @@ use Rattle.capi.specs.declared.numbers.EntryNumbers.{EntryNumbers}
 use Rattle.capi.specs.Scanning.{told_entry}
 use Rattle.capi.proofs.Listing.{room_for, written, all_written}
 use Rattle.capi.proofs.scanning.list.Goals as goal
-use Rattle.capi.proofs.scanning.list.Goals.{in-Some, in-default}
+use Rattle.capi.proofs.scanning.list.Goals.{in-Some, in_default}
 
 pub bounds-entries-found : goal.bounds-entries-found
 bounds-entries-found c =
@@ -51,10 +51,10 @@ loop-byte-preserved c =
             ap₂ {C = List EntryNumbers} (λ n l. take n l ++ rest) w.found-is w.entries-is ∙ new.0,
             ap₂ {C = List EntryNumbers} (λ n l. drop n l) w.found-is w.entries-is ∙ new.1 ∙ ap (λ (n : ℕ). drop n old) (sym w.found-is),
           )
-      | in-default w ↦ (
+      | in_default w ↦ (
         c.step.ensures.unread,
         omega (arith, w.found-is, c.loop-byte.invariant.1),
-        ap₂ {C = List EntryNumbers} (λ n l. take n l ++ rest) w.found-is w.entries-is ∙ ap {B = List EntryNumbers} (λ o. take k es ++ map told_entry (option_to_list o ++ after)) (sym w.in-default.is) ∙ more,
+        ap₂ {C = List EntryNumbers} (λ n l. take n l ++ rest) w.found-is w.entries-is ∙ ap {B = List EntryNumbers} (λ o. take k es ++ map told_entry (option_to_list o ++ after)) (sym w.in_default.is) ∙ more,
         ap₂ {C = List EntryNumbers} (λ n l. drop n l) w.found-is w.entries-is ∙ c.loop-byte.invariant.3 ∙ ap (λ (n : ℕ). drop n old) (sym w.found-is),
       )
     ]

@@ -31,37 +31,37 @@ counted t bs room n short levels_only is fits =
     ∙ ap {B = Answer} (λ m. cond (ltb room m) (Err TooShort) (Ok m)) is
     ∙ ap {B = Answer} (λ b. cond b (Err NotALevel) (cond (ltb room (length (listed_at t bs))) (Err TooShort) (Ok (length (listed_at t bs))))) levels_only
 
-pub returns-then-has-other : goal.returns-then-has-other
-returns-then-has-other c =
-    let t : Times = times_of c.in-ok-timing.field-0 in
+pub returns-then-has_other : goal.returns-then-has_other
+returns-then-has_other c =
+    let t : Times = times_of c.in_ok-timing.field-0 in
     let r = end_times c.args.end.now in
     let bs = c.args.picture.now in
     let n : ℕ = length (listed_at t bs) in
     let room : ℕ = length c.args.entries.now in
     record {
-      answer = by_numbers r t bs room (Err NotALevel) c.in-ok-timing.ensures
-          (ap {B = Answer} (λ b. cond b (Err NotALevel) (cond (ltb room n) (Err TooShort) (Ok n))) c.if-has-other.ensures);
+      answer = by_numbers r t bs room (Err NotALevel) c.in_ok-timing.ensures
+          (ap {B = Answer} (λ b. cond b (Err NotALevel) (cond (ltb room n) (Err TooShort) (Ok n))) c.if-has_other.ensures);
       entries = refl;
-      recovers = of_one (λ x. Recovers x bs (listed_at x bs)) r t c.in-ok-timing.ensures (recovers c.in-ok-timing.field-0 bs);
+      recovers = of_one (λ x. Recovers x bs (listed_at x bs)) r t c.in_ok-timing.ensures (recovers c.in_ok-timing.field-0 bs);
     }
 
 pub returns-then-entries-found : goal.returns-then-entries-found
 returns-then-entries-found c =
-    let t : Times = times_of c.in-ok-timing.field-0 in
+    let t : Times = times_of c.in_ok-timing.field-0 in
     let r = end_times c.args.end.now in
     let bs = c.args.picture.now in
     let room : ℕ = length c.args.entries.now in
     let n : c.count-found.result ≡ length (listed_at t bs) = c.count-found.ensures ∙ ap (λ (x : ReceiverState). length (taken_down x (levels bs))) c.new-receiver.ensures in
     record {
-      answer = by_numbers r t bs room (Err TooShort) c.in-ok-timing.ensures
-          (counted t bs room c.count-found.result true c.if-has-other.ensures n (sym (lt-ltb room c.count-found.result c.if-entries-found.true)));
+      answer = by_numbers r t bs room (Err TooShort) c.in_ok-timing.ensures
+          (counted t bs room c.count-found.result true c.if-has_other.ensures n (sym (lt-ltb room c.count-found.result c.if-entries-found.true)));
       entries = refl;
-      recovers = of_one (λ x. Recovers x bs (listed_at x bs)) r t c.in-ok-timing.ensures (recovers c.in-ok-timing.field-0 bs);
+      recovers = of_one (λ x. Recovers x bs (listed_at x bs)) r t c.in_ok-timing.ensures (recovers c.in_ok-timing.field-0 bs);
     }
 
 pub returns : goal.returns
 returns c =
-    let t : Times = times_of c.in-ok-timing.field-0 in
+    let t : Times = times_of c.in_ok-timing.field-0 in
     let r = end_times c.args.end.now in
     let bs = c.args.picture.now in
     let old = c.args.entries.now in
@@ -69,11 +69,11 @@ returns c =
     let made : taken_down (meant c.new-receiver.result) (levels bs) ≡ listed_at t bs = ap (λ (x : ReceiverState). taken_down x (levels bs)) c.new-receiver.ensures in
     let n : c.count-found.result ≡ length (listed_at t bs) = c.count-found.ensures ∙ ap length made in
     record {
-      answer = by_numbers r t bs room (Ok c.count-found.result) c.in-ok-timing.ensures
-          (counted t bs room c.count-found.result false c.if-has-other.ensures n (sym (le-ltb room c.count-found.result c.if-entries-found.false)));
+      answer = by_numbers r t bs room (Ok c.count-found.result) c.in_ok-timing.ensures
+          (counted t bs room c.count-found.result false c.if-has_other.ensures n (sym (le-ltb room c.count-found.result c.if-entries-found.false)));
       entries = c.list.ensures
           ∙ ap {B = List EntryNumbers} (λ (es : List Entry). map told_entry es ++ drop (length es) old) made
           ∙ ap {B = List EntryNumbers} (λ (m : ℕ). map told_entry (listed_at t bs) ++ drop m old) (sym n)
-          ∙ ap {B = List EntryNumbers} (λ (x : Result Times Refusal). listed_if x bs ++ drop c.count-found.result old) c.in-ok-timing.ensures;
-      recovers = of_one (λ x. Recovers x bs (listed_at x bs)) r t c.in-ok-timing.ensures (recovers c.in-ok-timing.field-0 bs);
+          ∙ ap {B = List EntryNumbers} (λ (x : Result Times Refusal). listed_if x bs ++ drop c.count-found.result old) c.in_ok-timing.ensures;
+      recovers = of_one (λ x. Recovers x bs (listed_at x bs)) r t c.in_ok-timing.ensures (recovers c.in_ok-timing.field-0 bs);
     }

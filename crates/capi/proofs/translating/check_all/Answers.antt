@@ -8,19 +8,19 @@ use Rattle.capi.proofs.translating.check_all.Goals as goal
 abbrev Checked : Type 0
 Checked = Result Unit Refusal
 
-pub returns-in-err-check : goal.returns-in-err-check
-returns-in-err-check c =
+pub returns-in_err-check : goal.returns-in_err-check
+returns-in_err-check c =
     let acts = c.args.acts.now in
     let i : ℕ = c.loop-act.act-index in
-    let m : c.from-residual.result ≡ Err c.in-err-check.field-0.0 = search rules in
-    m ∙ ap {B = Checked} (λ r. then r (λ _. acts_check (drop (i + 1) acts))) c.in-err-check.ensures
+    let m : c.from_residual.result ≡ Err c.in_err-check.field-0.0 = search rules in
+    m ∙ ap {B = Checked} (λ r. then r (λ _. acts_check (drop (i + 1) acts))) c.in_err-check.ensures
     ∙ sym (at_drop_more acts_check acts i _ c.loop-act-test.true) ∙ c.loop-act.invariant
 
 pub loop-act-preserved : goal.loop-act-preserved
 loop-act-preserved c =
     let acts = c.args.acts.now in
     let i : ℕ = c.loop-act.act-index in
-    ap {B = Checked} (λ r. then r (λ _. acts_check (drop (i + 1) acts))) c.in-ok-check.ensures
+    ap {B = Checked} (λ r. then r (λ _. acts_check (drop (i + 1) acts))) c.in_ok-check.ensures
     ∙ sym (at_drop_more acts_check acts i _ c.loop-act-test.true) ∙ c.loop-act.invariant
 
 pub returns : goal.returns

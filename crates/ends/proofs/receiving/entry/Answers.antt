@@ -21,12 +21,12 @@ returns c =
     let d : ℕ = c.args.digits in
     let w : ℕ = width f in
     let n : ℕ = c.characters-characters.result in
-    let v : ℕ = c.parity-values-parities.result in
-    let pb : ℕ = c.parity-bit.result in
+    let v : ℕ = c.parity_values-parities.result in
+    let pb : ℕ = c.parity_bit.result in
     let parity : c.if-above-parities.parity ≡ cond (eqb (d / 2 / n % v) pb) 0 2 =
     elim c.if-above-parities.branch [
-      | then-above-parities u ↦ chosen (eqb (d / 2 / n % v) pb) c.if-above-parities.parity 0 2 (eq-eqb (d / 2 / n % v) pb u.if-above-parities.true) u.parity_is
-      | else-above-parities u ↦ otherwise (eqb (d / 2 / n % v) pb) c.if-above-parities.parity 0 2 (ne_eqb (d / 2 / n % v) pb u.if-above-parities.false) u.parity_is
+      | then-above-parities u ↦ chosen (eqb (d / 2 / n % v) pb) c.if-above-parities.parity 0 2 (eq-eqb (d / 2 / n % v) pb u.if-above-parities.true) u.parity-is
+      | else-above-parities u ↦ otherwise (eqb (d / 2 / n % v) pb) c.if-above-parities.parity 0 2 (ne_eqb (d / 2 / n % v) pb u.if-above-parities.false) u.parity-is
     ] in
     let framing : c.if-above-parities-eq1.framing ≡ cond (eqb (d / 2 / n / v % 2) 1) 0 4 =
     elim c.if-above-parities-eq1.branch [
@@ -34,10 +34,10 @@ returns c =
       | else-above-parities-eq1 u ↦ otherwise (eqb (d / 2 / n / v % 2) 1) c.if-above-parities-eq1.framing 0 4 (ne_eqb (d / 2 / n / v % 2) 1 u.if-above-parities-eq1.false) u.framing-is
     ] in
     let bit : pb ≡ number (parity_bits f.parity (low_bits w (d / 2))) =
-    c.parity-bit.ensures.value
+    c.parity_bit.ensures.value
     ∙ ap (λ (m : ℕ). number (parity_bits f.parity (low_bits w (d / 2 % m)))) c.characters-characters.ensures.value
     ∙ ap (λ (l : List Level). number (parity_bits f.parity l)) (low_mod w (d / 2)) in
     ap₂ {C = Entry} (λ x y. (d / 2 % n, x + y)) parity framing
-    ∙ ap₂ {C = Entry} (λ m k. (d / 2 % m, cond (eqb (d / 2 / m % k) pb) 0 2 + cond (eqb (d / 2 / m / k % 2) 1) 0 4)) c.characters-characters.ensures.value c.parity-values-parities.ensures.value
+    ∙ ap₂ {C = Entry} (λ m k. (d / 2 % m, cond (eqb (d / 2 / m % k) pb) 0 2 + cond (eqb (d / 2 / m / k % 2) 1) 0 4)) c.characters-characters.ensures.value c.parity_values-parities.ensures.value
     ∙ ap {B = Entry} (λ q. (d / 2 % 2 ^ w, cond (eqb (d / 2 / 2 ^ w % 2 ^ parity_count f.parity) q) 0 2 + cond (eqb (d / 2 / 2 ^ w / 2 ^ parity_count f.parity % 2) 1) 0 4)) bit
     ∙ sym (entry_digits f d)

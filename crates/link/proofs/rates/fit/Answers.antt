@@ -23,28 +23,28 @@ second_out : (a : Bool) (agreed : Bool) (v : Verdict) → Err OutOfRange ≡ out
 second_out true agreed v = refl
 second_out false agreed v = refl
 
-pub returns-then-not-in-range : goal.returns-then-not-in-range
-returns-then-not-in-range g c =
+pub returns-then-not-in_range : goal.returns-then-not-in_range
+returns-then-not-in_range g c =
     let s = g.S.Sender.meaning c.args.sender.now in
     let r = g.R.Receiver.meaning c.args.receiver.now in
-    let a : ℕ = c.args.send-rate in
-    let b : ℕ = c.args.receive-rate in
+    let a : ℕ = c.args.send_rate in
+    let b : ℕ = c.args.receive_rate in
     record {
-      answer = ap {B = Outcome} (λ x. outcome x (rate_in_range b) (agree s.format r.format) (judged s r a b 0 (1 + first_stop r.format))) c.if-not-in-range.ensures;
+      answer = ap {B = Outcome} (λ x. outcome x (rate_in_range b) (agree s.format r.format) (judged s r a b 0 (1 + first_stop r.format))) c.if-not-in_range.ensures;
       exactly = tt;
       delivers = tt;
     }
 
-pub returns-then-not-in-range-2 : goal.returns-then-not-in-range-2
-returns-then-not-in-range-2 g c =
+pub returns-then-not-in_range-2 : goal.returns-then-not-in_range-2
+returns-then-not-in_range-2 g c =
     let s = g.S.Sender.meaning c.args.sender.now in
     let r = g.R.Receiver.meaning c.args.receiver.now in
-    let a : ℕ = c.args.send-rate in
-    let b : ℕ = c.args.receive-rate in
+    let a : ℕ = c.args.send_rate in
+    let b : ℕ = c.args.receive_rate in
     let v : Verdict = judged s r a b 0 (1 + first_stop r.format) in
     record {
       answer = second_out (rate_in_range a) (agree s.format r.format) v
-          ∙ ap {B = Outcome} (λ x. outcome (rate_in_range a) x (agree s.format r.format) v) c.if-not-in-range-2.ensures;
+          ∙ ap {B = Outcome} (λ x. outcome (rate_in_range a) x (agree s.format r.format) v) c.if-not-in_range-2.ensures;
       exactly = tt;
       delivers = tt;
     }
@@ -61,9 +61,9 @@ returns-then-not-agrees g c =
     let s = g.S.Sender.meaning c.args.sender.now in
     let r = g.R.Receiver.meaning c.args.receiver.now in
     record {
-      answer = reached c.args.send-rate c.args.receive-rate c.format.result c.format-2.result s.format r.format false
-          (judged s r c.args.send-rate c.args.receive-rate 0 (1 + first_stop r.format))
-          c.if-not-in-range.ensures c.if-not-in-range-2.ensures c.format.ensures c.format-2.ensures c.if-not-agrees.ensures.test;
+      answer = reached c.args.send_rate c.args.receive_rate c.format.result c.format-2.result s.format r.format false
+          (judged s r c.args.send_rate c.args.receive_rate 0 (1 + first_stop r.format))
+          c.if-not-in_range.ensures c.if-not-in_range-2.ensures c.format.ensures c.format-2.ensures c.if-not-agrees.ensures.test;
       exactly = tt;
       delivers = tt;
     }
@@ -75,10 +75,10 @@ pub returns : goal.returns
 returns g c =
     let s = g.S.Sender.meaning c.args.sender.now in
     let r = g.R.Receiver.meaning c.args.receiver.now in
-    let a : ℕ = c.args.send-rate in
-    let b : ℕ = c.args.receive-rate in
-    let ra = c.if-not-in-range.ensures in
-    let rb = c.if-not-in-range-2.ensures in
+    let a : ℕ = c.args.send_rate in
+    let b : ℕ = c.args.receive_rate in
+    let ra = c.if-not-in_range.ensures in
+    let rb = c.if-not-in_range-2.ensures in
     let law = fitting s r a b (g.met.S.Sender.sound c.args.sender.now) (some_rate a ra) (some_rate b rb) in
     record {
       answer = ap {B = Outcome} (λ v. Ok v) c.judge.ensures

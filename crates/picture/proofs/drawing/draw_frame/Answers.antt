@@ -10,8 +10,8 @@ loop-bit-init c =
     let t = c.args.timing.now in
     none_yet (from_start t c.args.character _ c.frame-digits.ensures.value) (omega (arith, frame_size t c.args.character))
 
-pub draw-run-requires : goal.draw-run-requires
-draw-run-requires c =
+pub draw_run-requires : goal.draw_run-requires
+draw_run-requires c =
     piece_fits _ _ c.loop-bit.invariant (next_bit c.args.timing.now c.loop-bit.bit (omega arith) c.loop-bit.digits) (sym (length-replicate _ _))
 
 pub loop-bit-preserved : goal.loop-bit-preserved
@@ -21,7 +21,7 @@ loop-bit-preserved c =
     (next_bit c.args.timing.now c.loop-bit.bit (omega arith) c.loop-bit.digits)
     (sym (length-replicate _ _))
     refl
-    c.draw-run.ensures
+    c.draw_run.ensures
 
 pub returns : goal.returns
 returns c =

@@ -6,7 +6,7 @@ use Rattle.ends.specs.Runs.{taken_down}
 use Rattle.picture.specs.Scanning.{levels}
 use Rattle.picture.proofs.Listing.{listed_more, listed_all}
 use Rattle.picture.proofs.scanning.count.Goals as goal
-use Rattle.picture.proofs.scanning.count.Goals.{in-Some, in-default}
+use Rattle.picture.proofs.scanning.count.Goals.{in-Some, in_default}
 
 pub loop-byte-preserved : goal.loop-byte-preserved
 loop-byte-preserved c =
@@ -17,10 +17,10 @@ loop-byte-preserved c =
         omega (arith, w.found-is, c.loop-byte.invariant.1),
         omega (arith, w.found-is, c.loop-byte.invariant.2, ap length (more ∙ ap (λ o. option_to_list o ++ taken_down (meant c.step.new.receiver) (levels (drop (c.loop-byte.byte-index + 1) c.args.picture.now))) w.in-Some.is)),
       )
-      | in-default w ↦ (
+      | in_default w ↦ (
         c.step.ensures.unread,
         omega (arith, w.found-is, c.loop-byte.invariant.1),
-        omega (arith, w.found-is, c.loop-byte.invariant.2, ap length (more ∙ ap (λ o. option_to_list o ++ taken_down (meant c.step.new.receiver) (levels (drop (c.loop-byte.byte-index + 1) c.args.picture.now))) w.in-default.is)),
+        omega (arith, w.found-is, c.loop-byte.invariant.2, ap length (more ∙ ap (λ o. option_to_list o ++ taken_down (meant c.step.new.receiver) (levels (drop (c.loop-byte.byte-index + 1) c.args.picture.now))) w.in_default.is)),
       )
     ]
 

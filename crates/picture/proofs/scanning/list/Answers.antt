@@ -6,7 +6,7 @@ use Rattle.ends.specs.Runs.{taken_down}
 use Rattle.picture.specs.Scanning.{levels}
 use Rattle.picture.proofs.Listing.{after_more, after_all, listed_more, listed_all, room_for, written, all_written}
 use Rattle.picture.proofs.scanning.list.Goals as goal
-use Rattle.picture.proofs.scanning.list.Goals.{in-Some, in-default}
+use Rattle.picture.proofs.scanning.list.Goals.{in-Some, in_default}
 
 pub bounds-entries-found : goal.bounds-entries-found
 bounds-entries-found c =
@@ -45,10 +45,10 @@ loop-byte-preserved c =
             ap₂ {C = List Entry} (λ n l. drop n l) w.found-is w.entries-is ∙ new.1 ∙ ap (λ (n : ℕ). drop n old) (sym w.found-is),
             going,
           )
-      | in-default w ↦ (
+      | in_default w ↦ (
         c.step.ensures.unread,
         omega (arith, w.found-is, c.loop-byte.invariant.1),
-        ap₂ {C = List Entry} (λ n l. take n l ++ rest) w.found-is w.entries-is ∙ ap {B = List Entry} (λ o. take k es ++ (option_to_list o ++ rest)) (sym w.in-default.is) ∙ more,
+        ap₂ {C = List Entry} (λ n l. take n l ++ rest) w.found-is w.entries-is ∙ ap {B = List Entry} (λ o. take k es ++ (option_to_list o ++ rest)) (sym w.in_default.is) ∙ more,
         ap₂ {C = List Entry} (λ n l. drop n l) w.found-is w.entries-is ∙ c.loop-byte.invariant.3 ∙ ap (λ (n : ℕ). drop n old) (sym w.found-is),
         going,
       )

@@ -5,10 +5,10 @@ use Rattle.usart.specs.Table.{rows, pair, lookup}
 use Rattle.usart.proofs.Rows.{distinct, in_range, the_row, one_has, some_found, rows_length}
 use Rattle.usart.proofs.built.built_in.Goals as goal
 
-pub returns-in-default : goal.returns-in-default
+pub returns-in_default : goal.returns-in_default
 unfolding rows
-returns-in-default c =
-    let e : lookup rows c.args.clock c.args.baud ≡ None = sym c.find.ensures ∙ c.in-default.is in
+returns-in_default c =
+    let e : lookup rows c.args.clock c.args.baud ≡ None = sym c.find.ensures ∙ c.in_default.is in
     record {
       row = λ k l h. absurd (some_found rows c.args.clock c.args.baud k (omega (arith, l, rows_length)) h e);
       none = λ f. refl;

@@ -8,7 +8,7 @@ use Rattle.usart.proofs.usart.bit_lengths.Goals as goal
 pub loop-k-preserved : goal.loop-k-preserved
 loop-k-preserved c =
     let s = c.args.settings.now in
-    (simp c.bit-length.ensures.value (fill_by_more (bit_length s.divider s.modulator) c.loop-k.table c.loop-k.k 0 (omega arith) c.loop-k.invariant.0), search rules)
+    (simp c.bit_length.ensures.value (fill_by_more (bit_length s.divider s.modulator) c.loop-k.table c.loop-k.k 0 (omega arith) c.loop-k.invariant.0), search rules)
 
 pub returns : goal.returns
 unfolding lengths

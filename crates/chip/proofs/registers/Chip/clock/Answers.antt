@@ -18,11 +18,11 @@ module _ (k : Chip) where
   on_line : Speaks (chip_of k)
   on_line = chip_speaks k.mode k.transmit k.receive k.rate k.swrst (ends_of k.ends) k.wide refl (one_waits k.ends.sender.waiting)
 
-pub invariant-of-self : goal.invariant-of-self
-invariant-of-self c = (λ on. ap (λ (e : EndsState). width e.sender.format) c.clock-utxd.ensures.state ∙ ap width (send_format (ends_of c.args.self.now.ends).sender) ∙ c.args.self.now.wide on, tt)
+pub invariant_of-self : goal.invariant_of-self
+invariant_of-self c = (λ on. ap (λ (e : EndsState). width e.sender.format) c.clock-utxd.ensures.state ∙ ap width (send_format (ends_of c.args.self.now.ends).sender) ∙ c.args.self.now.wide on, tt)
 
-pub invariant-of-self-in-default : goal.invariant-of-self-in-default
-invariant-of-self-in-default c = (λ on. ap (λ (e : EndsState). width e.sender.format) c.clock-utxd.ensures.state ∙ ap width (send_format (ends_of c.args.self.now.ends).sender) ∙ c.args.self.now.wide on, tt)
+pub invariant_of-self-in_default : goal.invariant_of-self-in_default
+invariant_of-self-in_default c = (λ on. ap (λ (e : EndsState). width e.sender.format) c.clock-utxd.ensures.state ∙ ap width (send_format (ends_of c.args.self.now.ends).sender) ∙ c.args.self.now.wide on, tt)
 
 pub returns-in-Some : goal.returns-in-Some
 returns-in-Some c =
@@ -37,11 +37,11 @@ returns-in-Some c =
           (one_waits k.ends.sender.waiting) c.clock-utxd.ensures.state (c.take.ensures ∙ ap (all_taken k.mode k.receive) came);
     }
 
-pub returns-in-default : goal.returns-in-default
-returns-in-default c =
+pub returns-in_default : goal.returns-in_default
+returns-in_default c =
     let k = c.args.self.now in
     let e : EndsState = ends_of k.ends in
-    let came = sym (ap option_to_list c.in-default.is) ∙ c.clock-utxd.ensures.arrived in
+    let came = sym (ap option_to_list c.in_default.is) ∙ c.clock-utxd.ensures.arrived in
     record {
       speaks = on_line k;
       listens = receives _;

@@ -13,12 +13,12 @@ use Rattle.chip.proofs.registers.Chip.send.Goals as goal
 apart : (e : Refusal) → ◌≡◌ {A = Result Unit Refusal} (Err e) (Ok tt) → ⊥
 apart e is = let z : ◌≡◌ {A = ℕ} 0 1 = cc in omega arith
 
-pub returns-in-err-load : goal.returns-in-err-load
-returns-in-err-load c =
+pub returns-in_err-load : goal.returns-in_err-load
+returns-in_err-load c =
     let k = c.args.self.now in
     let s : SenderState = meant k.ends.sender in
     let small = subst (λ (n : ℕ). character_of k.mode k.transmit.txwake c.args.byte < 2 ^ n) (sym (k.wide c.requires.0)) (narrow k.mode k.transmit.txwake c.args.byte) in
     let room : empty s.waiting ≡ true = ap (λ (x : Option EndsState). empty (waiting x)) (sym (in_run k.swrst (ends_of k.ends) c.requires.0)) ∙ c.requires.1 in
     let taken = load_taken s (character_of k.mode k.transmit.txwake c.args.byte) small room refl in
-    let refused = sym c.in-err-load.was ∙ c.load.ensures.answer ∙ ap (load_answer s) c.character-character.ensures ∙ taken in
-    absurd (apart c.in-err-load.field-0.0 refused)
+    let refused = sym c.in_err-load.was ∙ c.load.ensures.answer ∙ ap (load_answer s) c.character-character.ensures ∙ taken in
+    absurd (apart c.in_err-load.field-0.0 refused)

@@ -26,7 +26,7 @@ returns-in-112-3 c =
       answer = c.release.ensures.answer ∙ release_answer k.mode k.transmit k.receive k.rate v a c.in-112.is off async
           ∙ sym (ap (λ (x : Option EndsState). write_answer (chip x) a v) held);
       state = c.release.ensures.state
-          ∙ ap₂ {C = ChipState} (λ x m. cond (ltb (divider k.rate) 3) (chip x) (holding m k.transmit k.receive k.rate (Some (begun m k.rate)))) held c.from-byte-in-112-3.ensures
+          ∙ ap₂ {C = ChipState} (λ x m. cond (ltb (divider k.rate) 3) (chip x) (holding m k.transmit k.receive k.rate (Some (begun m k.rate)))) held c.from_byte-in-112-3.ensures
           ∙ release_state k.mode k.transmit k.receive k.rate v a c.in-112.is off async
           ∙ sym (ap (λ (x : Option EndsState). after_write (chip x) a v) held);
     }
@@ -56,6 +56,6 @@ returns-in-112 c =
     let on = sym c.if-has.ensures in
     record {
       answer = reset_answer k.mode k.transmit k.receive k.rate v c.args.address e c.in-112.is on;
-      state = c.hold.ensures ∙ ap (λ (m : Mode). holding m (unwoken k.transmit) (cleared k.receive) k.rate None) c.from-byte.ensures
+      state = c.hold.ensures ∙ ap (λ (m : Mode). holding m (unwoken k.transmit) (cleared k.receive) k.rate None) c.from_byte.ensures
           ∙ reset_state k.mode k.transmit k.receive k.rate v c.args.address e c.in-112.is on;
     }

@@ -4,7 +4,7 @@ use Rattle.ends.specs.BareSender.{meant}
 use Rattle.ends.proofs.Shifting.{goes_on}
 use Rattle.ends.proofs.bare_sender.BareSender.make_ready.Goals as goal
 
-pub returns-then-is-some : goal.returns-then-is-some
-returns-then-is-some c =
+pub returns-then-is_some : goal.returns-then-is_some
+returns-then-is_some c =
     let s = c.args.self.now in
-    goes_on (meant s) s.timing.format s.timing.lengths s.shift (option_to_list s.waiting) (sym c.if-is-some.ensures) s.on_line
+    goes_on (meant s) s.timing.format s.timing.lengths s.shift (option_to_list s.waiting) (sym c.if-is_some.ensures) s.on_line

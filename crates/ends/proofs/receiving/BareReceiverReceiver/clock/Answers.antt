@@ -16,14 +16,14 @@ counted r n e =
     let h : n < r.timing.break_length = subst (λ (d : Doing). spaces_by d < r.timing.break_length) e r.unbroken in
     fits_below (n + 1) (omega (arith, h, r.timing.brief))
 
-pub overflow-add-spaces : goal.overflow-add-spaces
-overflow-add-spaces c = counted c.args.self.now c.in-Counting-Space-Space.spaces c.in-Counting-Space-Space.is-0
+pub overflow_add-spaces : goal.overflow_add-spaces
+overflow_add-spaces c = counted c.args.self.now c.in-Counting-Space-Space.spaces c.in-Counting-Space-Space.is-0
 
-pub overflow-add-spaces-then-spaces-self : goal.overflow-add-spaces-then-spaces-self
-overflow-add-spaces-then-spaces-self c = counted c.args.self.now c.in-Counting-Space-Space.spaces c.in-Counting-Space-Space.is-0
+pub overflow_add-spaces-then-spaces-self : goal.overflow_add-spaces-then-spaces-self
+overflow_add-spaces-then-spaces-self c = counted c.args.self.now c.in-Counting-Space-Space.spaces c.in-Counting-Space-Space.is-0
 
-pub overflow-add-clock : goal.overflow-add-clock
-overflow-add-clock c =
+pub overflow_add-clock : goal.overflow_add-clock
+overflow_add-clock c =
     let r = c.args.self.now in
     let n : ℕ = c.in-Framing-default-default.clock in
     let e : r.doing ≡ Framing n = c.in-Framing-default-default.is-0 in

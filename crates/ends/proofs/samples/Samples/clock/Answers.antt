@@ -36,33 +36,33 @@ unended t s u n l bs before is ne e = record {
 pub returns-then-self-timing : goal.returns-then-self-timing
 returns-then-self-timing c =
     let t = c.args.timing.now in
-    let u = c.take-down.new.self in
+    let u = c.take_down.new.self in
     let n : ℕ = c.args.clock in
     let all : length (taken u) ≡ samples_per_frame t.format = taken_length u ∙ c.if-self-timing.true ∙ t.counted in
     record {
-      taken = c.take-down.ensures;
+      taken = c.take_down.ensures;
       heard = over_by_digits t.format n (taken u) c.entry-character.result c.digits-digits.result all c.digits-digits.ensures.value c.entry-character.ensures;
-      in_step = in_step t c.args.self.now u n c.args.level c.requires.in_step c.take-down.ensures;
+      in_step = in_step t c.args.self.now u n c.args.level c.requires.in_step c.take_down.ensures;
       unended = λ e. absurd (let z : ◌≡◌ {A = ℕ} 0 1 = cc in omega arith);
     }
 
 pub returns-in-Mark : goal.returns-in-Mark
 returns-in-Mark c =
-    let u = c.take-down.new.self in
-    let x = unended c.args.timing.now c.args.self.now u c.args.clock c.args.level (Mark ∷ decided (drop 3 (taken u))) c.requires.in_step c.take-down.ensures c.if-self-timing.false
+    let u = c.take_down.new.self in
+    let x = unended c.args.timing.now c.args.self.now u c.args.clock c.args.level (Mark ∷ decided (drop 3 (taken u))) c.requires.in_step c.take_down.ensures c.if-self-timing.false
     (decided_more u 0 Mark c.if-self-ge3.true c.in-Mark.ensures) in
-    record { taken = c.take-down.ensures; heard = x.goes_on; in_step = x.step; unended = λ e. x.few }
+    record { taken = c.take_down.ensures; heard = x.goes_on; in_step = x.step; unended = λ e. x.few }
 
-pub returns-in-default : goal.returns-in-default
-returns-in-default c =
-    let u = c.take-down.new.self in
-    let x = unended c.args.timing.now c.args.self.now u c.args.clock c.args.level (Space ∷ decided (drop 3 (taken u))) c.requires.in_step c.take-down.ensures c.if-self-timing.false
-    (decided_more u 0 Space c.if-self-ge3.true c.in-default.ensures) in
-    record { taken = c.take-down.ensures; heard = x.goes_on; in_step = x.step; unended = λ e. x.few }
+pub returns-in_default : goal.returns-in_default
+returns-in_default c =
+    let u = c.take_down.new.self in
+    let x = unended c.args.timing.now c.args.self.now u c.args.clock c.args.level (Space ∷ decided (drop 3 (taken u))) c.requires.in_step c.take_down.ensures c.if-self-timing.false
+    (decided_more u 0 Space c.if-self-ge3.true c.in_default.ensures) in
+    record { taken = c.take_down.ensures; heard = x.goes_on; in_step = x.step; unended = λ e. x.few }
 
 pub returns-else-self-ge3 : goal.returns-else-self-ge3
 returns-else-self-ge3 c =
-    let u = c.take-down.new.self in
-    let x = unended c.args.timing.now c.args.self.now u c.args.clock c.args.level [] c.requires.in_step c.take-down.ensures c.if-self-timing.false
+    let u = c.take_down.new.self in
+    let x = unended c.args.timing.now c.args.self.now u c.args.clock c.args.level [] c.requires.in_step c.take_down.ensures c.if-self-timing.false
     (few_decided (taken u) (omega (arith, taken_length u, c.if-self-ge3.false))) in
-    record { taken = c.take-down.ensures; heard = x.goes_on; in_step = x.step; unended = λ e. x.few }
+    record { taken = c.take_down.ensures; heard = x.goes_on; in_step = x.step; unended = λ e. x.few }

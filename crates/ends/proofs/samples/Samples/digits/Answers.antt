@@ -1,4 +1,4 @@
-use Rattle.std.proofs.Common.{◌≡◌, ℕ, suc, ◌+◌, ◌-◌, ◌*◌, ◌^◌, ◌<◌, ◌≤◌, List, [], ◌∷◌, length, get_or, drop, sym, ap, ◌∙◌, pow-suc, arith}
+use Rattle.std.proofs.Common.{◌≡◌, ℕ, suc, ◌+◌, ◌-◌, ◌*◌, ◌^◌, ◌<◌, ◌≤◌, List, [], ◌∷◌, get_or, drop, sym, ap, ◌∙◌, pow-suc, arith}
 use Rattle.std.proofs.lemmas.Nat.{pow_pos}
 use Rattle.std.proofs.lemmas.List.{drop_all}
 use Rattle.line.specs.declared.level.Level.{Level}
@@ -43,5 +43,5 @@ loop-k-preserved-in-Mark c =
 
 pub loop-k-preserved : goal.loop-k-preserved
 loop-k-preserved c =
-    let t = turn c.args.self.now c.args.bits c.loop-k.k c.loop-k.digits Space c.requires c.loop-k-test.true c.loop-k.auto.k c.in-default.ensures c.loop-k.invariant.0 c.loop-k.invariant.1 in
+    let t = turn c.args.self.now c.args.bits c.loop-k.k c.loop-k.digits Space c.requires c.loop-k-test.true c.loop-k.auto.k c.in_default.ensures c.loop-k.invariant.0 c.loop-k.invariant.1 in
     (omega (arith, t.0), omega (arith, t.1))

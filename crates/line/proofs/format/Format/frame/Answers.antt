@@ -1,7 +1,6 @@
-use Rattle.std.proofs.Common.{◌≡◌, ℕ, ◌+◌, ◌*◌, ◌%◌, ◌^◌, ◌≤◌, replicate, sym, ap, ◌∙◌, ap₂, arith}
+use Rattle.std.proofs.Common.{ℕ, ◌+◌, ◌*◌, ◌%◌, ◌^◌, ◌≤◌, sym, ap, ◌∙◌, ap₂, arith}
 use Rattle.std.proofs.lemmas.Nat.{mul-le, mod_below, pow_pos}
-use Rattle.line.specs.declared.level.Level.TheVariants.{Mark}
-use Rattle.line.specs.Frames.{width, parity_bits, parity_count, stop_count}
+use Rattle.line.specs.Frames.{width, parity_bits, parity_count}
 use Rattle.line.specs.Levels.{low_bits, number}
 use Rattle.line.proofs.Bits.{frame_number}
 use Rattle.line.proofs.format.Format.frame.Goals as goal

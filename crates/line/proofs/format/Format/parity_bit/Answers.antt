@@ -1,7 +1,7 @@
-use Rattle.std.proofs.Common.{◌≡◌, ℕ, ◌+◌, ◌%◌, [], ◌∷◌, sym, ap, ◌∙◌, arith}
+use Rattle.std.proofs.Common.{◌≡◌, ℕ, ◌+◌, ◌%◌, sym, ap, ◌∙◌, arith}
 use lib.Count.{ones}
 use Rattle.line.specs.Frames.{width, parity_bits}
-use Rattle.line.specs.Levels.{low_bits, level_of, marks, number}
+use Rattle.line.specs.Levels.{low_bits, marks, number}
 use Rattle.line.proofs.Digits.{digit_number, marks_low}
 use Rattle.line.proofs.format.Format.parity_bit.Goals as goal
 

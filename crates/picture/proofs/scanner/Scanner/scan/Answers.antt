@@ -12,13 +12,13 @@ use Rattle.picture.proofs.scanner.Scanner.scan.Goals as goal
 abbrev Answer : Type 0
 Answer = Result ℕ Refusal
 
-pub returns-then-has-other : goal.returns-then-has-other
-returns-then-has-other c =
+pub returns-then-has_other : goal.returns-then-has_other
+returns-then-has_other c =
     let r : ReceiverState = meant c.args.self.now.receiver in
     let bs = c.args.piece.now in
     let n : ℕ = length (taken_down r (levels bs)) in
     record {
-      answer = ap {B = Answer} (λ b. cond b (Err NotALevel) (cond (ltb (length c.args.entries.now) n) (Err TooShort) (Ok n))) c.if-has-other.ensures;
+      answer = ap {B = Answer} (λ b. cond b (Err NotALevel) (cond (ltb (length c.args.entries.now) n) (Err TooShort) (Ok n))) c.if-has_other.ensures;
       entries = refl;
       state = refl;
       pieces = goes_on bs r;
@@ -38,7 +38,7 @@ returns-then-entries-found c =
     let bs = c.args.piece.now in
     let n : c.count-found.result ≡ length (taken_down r (levels bs)) = c.count-found.ensures in
     record {
-      answer = counted r bs (length c.args.entries.now) c.count-found.result true c.if-has-other.ensures n (sym (lt-ltb (length c.args.entries.now) c.count-found.result c.if-entries-found.true));
+      answer = counted r bs (length c.args.entries.now) c.count-found.result true c.if-has_other.ensures n (sym (lt-ltb (length c.args.entries.now) c.count-found.result c.if-entries-found.true));
       entries = refl;
       state = refl;
       pieces = goes_on bs r;
@@ -50,7 +50,7 @@ returns c =
     let bs = c.args.piece.now in
     let n : c.count-found.result ≡ length (taken_down r (levels bs)) = c.count-found.ensures in
     record {
-      answer = counted r bs (length c.args.entries.now) c.count-found.result false c.if-has-other.ensures n (sym (le-ltb (length c.args.entries.now) c.count-found.result c.if-entries-found.false));
+      answer = counted r bs (length c.args.entries.now) c.count-found.result false c.if-has_other.ensures n (sym (le-ltb (length c.args.entries.now) c.count-found.result c.if-entries-found.false));
       entries = c.list.ensures.entries
           ∙ ap {B = List Entry} (λ m. taken_down r (levels bs) ++ drop m c.args.entries.now) (sym n);
       state = c.list.ensures.state;

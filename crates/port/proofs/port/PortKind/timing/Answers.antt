@@ -5,9 +5,9 @@ use Rattle.line.proofs.Bits.{stop_most}
 use Rattle.port.proofs.Table.{timed_plain, frame_samples, spaced, inside, tables}
 use Rattle.port.proofs.port.PortKind.timing.Goals as goal
 
-pub invariant-of-result : goal.invariant-of-result
-invariant-of-result c =
-    let t = tables _ _ c.sample-table.ensures (omega arith, omega arith) in
+pub invariant_of-result : goal.invariant_of-result
+invariant_of-result c =
+    let t = tables _ _ c.sample_table.ensures (omega arith, omega arith) in
     search rules
 
 pub returns : goal.returns
@@ -15,7 +15,7 @@ returns c =
     let f = c.args.format in
     let last = stop_most f in
     let size : 3 * (1 + first_stop f) ≡ 3 * (1 + c.first_stop.result) = omega (arith, c.first_stop.ensures) in
-    let used = frame_samples _ (3 * (1 + c.first_stop.result)) _ c.sample-table.ensures (omega arith) in
+    let used = frame_samples _ (3 * (1 + c.first_stop.result)) _ c.sample_table.ensures (omega arith) in
     let same : c.from-divider.result ≡ c.args.settings.divider = omega arith in
     record {
       times = cc (timed_plain f c.args.settings.divider (cc));

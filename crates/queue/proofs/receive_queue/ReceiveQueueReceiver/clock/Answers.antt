@@ -10,10 +10,10 @@ use Rattle.queue.proofs.receive_queue.ReceiveQueueReceiver.clock.Goals as goal
 pub returns : goal.returns
 returns g c =
     let before = c.args.self.now in
-    let q = c.take-over.new.self in
+    let q = c.take_over.new.self in
     let r : ReceiverState = g.R.Receiver.meaning q.below in
     let held : List Entry = items q.held in
     ap (λ (t : ReceiverState). queued_from t held) {x = g.R.Receiver.meaning c.clock.new.self} {y = after_clock r c.args.level} c.clock.ensures
     ∙ clocked r held c.args.level (g.met.R.Receiver.sound q.below).room (omega (arith, count_is q.held, q.held.few))
-    (λ h. c.take-over.ensures.emptied (omega (arith, h, count_is q.held)))
-    ∙ ap (λ (m : ReceiverState). after_clock m c.args.level) {x = queued_from r held} {y = queued_from (g.R.Receiver.meaning before.below) (items before.held)} c.take-over.ensures.same
+    (λ h. c.take_over.ensures.emptied (omega (arith, h, count_is q.held)))
+    ∙ ap (λ (m : ReceiverState). after_clock m c.args.level) {x = queued_from r held} {y = queued_from (g.R.Receiver.meaning before.below) (items before.held)} c.take_over.ensures.same

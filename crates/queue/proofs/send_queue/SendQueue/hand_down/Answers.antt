@@ -11,15 +11,15 @@ pub loop-character-preserved : goal.loop-character-preserved
 loop-character-preserved g c =
     let q = c.loop-character.self in
     handed_down (g.S.Sender.meaning q.below) (g.S.Sender.meaning c.load.new.self) c.in-Some.character c.characters-characters.result
-    (items q.held) (items c.remove-oldest.new.self) c.load.result
-    (c.in-Some.ensures ∙ ap (λ (l : List ℕ). c.in-Some.character ∷ l) (sym c.remove-oldest.ensures.items))
+    (items q.held) (items c.remove_oldest.new.self) c.load.result
+    (c.in-Some.ensures ∙ ap (λ (l : List ℕ). c.in-Some.character ∷ l) (sym c.remove_oldest.ensures.items))
     (c.characters-characters.ensures.value ∙ ap (λ (f : Format). 2 ^ width f) c.format.ensures)
-    c.load.ensures.answer c.load.ensures.state c.if-is-err.ensures.value
+    c.load.ensures.answer c.load.ensures.state c.if-is_err.ensures.value
     ∙ c.loop-character.invariant
 
 pub returns : goal.returns
 returns g c =
     record {
       same = c.loop-character.invariant;
-      full = λ some. absurd (omega (arith, some, count_is c.loop-character.self.held, ap length c.in-default.ensures));
+      full = λ some. absurd (omega (arith, some, count_is c.loop-character.self.held, ap length c.in_default.ensures));
     }

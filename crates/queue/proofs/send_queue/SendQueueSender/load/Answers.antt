@@ -16,18 +16,18 @@ pub returns-then-self-eq-PLACES : goal.returns-then-self-eq-PLACES
 returns-then-self-eq-PLACES g c =
     let before = c.args.self.now in
     let m : SenderState = queued_to (g.S.Sender.meaning before.below) (items before.held) in
-    let q = c.hand-down.new.self in
-    let done = refused (g.S.Sender.meaning q.below) (items q.held) m c.hand-down.ensures.same c.args.character
+    let q = c.hand_down.new.self in
+    let done = refused (g.S.Sender.meaning q.below) (items q.held) m c.hand_down.ensures.same c.args.character
     (narrow c.args.character c.characters.result c.format.result m.format c.characters.ensures.value c.format.ensures c.if-character-characters.false)
-    (count_is q.held ∙ c.if-self-eq-PLACES.true) (c.hand-down.ensures.full (omega (arith, c.if-self-eq-PLACES.true))) in
+    (count_is q.held ∙ c.if-self-eq-PLACES.true) (c.hand_down.ensures.full (omega (arith, c.if-self-eq-PLACES.true))) in
     record { answer = done.0; state = done.1 }
 
 pub returns : goal.returns
 returns g c =
     let before = c.args.self.now in
     let m : SenderState = queued_to (g.S.Sender.meaning before.below) (items before.held) in
-    let q = c.hand-down.new.self in
-    let done = taken (g.S.Sender.meaning q.below) (items q.held) m c.hand-down.ensures.same c.args.character
+    let q = c.hand_down.new.self in
+    let done = taken (g.S.Sender.meaning q.below) (items q.held) m c.hand_down.ensures.same c.args.character
     (narrow c.args.character c.characters.result c.format.result m.format c.characters.ensures.value c.format.ensures c.if-character-characters.false)
     (items c.push.new.self) c.push.ensures.items
     (omega (arith, count_is q.held, q.held.few, c.if-self-eq-PLACES.false)) (g.met.S.Sender.sound q.below).few in

@@ -13,8 +13,8 @@ pub loop-k-init : goal.loop-k-init
 unfolding lengths
 loop-k-init c = (refl, omega arith)
 
-pub overflow-add-clocks : goal.overflow-add-clocks
-overflow-add-clocks c = search rules
+pub overflow_add-clocks : goal.overflow_add-clocks
+overflow_add-clocks c = search rules
 
 pub loop-k-preserved : goal.loop-k-preserved
 unfolding lengths
@@ -23,4 +23,4 @@ loop-k-preserved c =
     let k : ℕ = c.loop-k.k in
     let more : sum (lengths s.divider s.modulator (k + 1)) ≡ sum (lengths s.divider s.modulator k) + bit_length s.divider s.modulator k =
     ap sum (map-range_with_len_more (bit_length s.divider s.modulator) 0 k k (omega arith)) ∙ sum_push (lengths s.divider s.modulator k) (bit_length s.divider s.modulator k) in
-    (ap₂ (λ (a b : ℕ). a + b) c.loop-k.invariant.0 c.bit-length-clocks.ensures.value ∙ sym more, omega (arith, c.loop-k.invariant.1, c.bit-length-clocks.ensures.bound))
+    (ap₂ (λ (a b : ℕ). a + b) c.loop-k.invariant.0 c.bit_length-clocks.ensures.value ∙ sym more, omega (arith, c.loop-k.invariant.1, c.bit_length-clocks.ensures.bound))
