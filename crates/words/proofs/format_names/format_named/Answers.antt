@@ -1,5 +1,5 @@
 -- Three letters have no address bit, four have one.
-use Rattle.std.proofs.Common.{◌≡◌, ℕ, true, false, length, get_or, arith, ltb-false, ltb-true}
+use Rattle.std.proofs.Common.{◌≡◌, true, false, length, get_or, arith, ltb-false, ltb-true}
 use Rattle.words.proofs.Letters.{by_letters, three, four}
 use Rattle.words.proofs.format_names.format_named.Goals as goal
 
