@@ -6,8 +6,6 @@ use Rattle.std.proofs.lemmas.List.{take-replicate, get_or-replicate, get_or_past
 use Rattle.std.proofs.lemmas.List.FromFn.{get_or-map-range_with_len, length-map-range_with_len, take-map-range_with_len}
 use Rattle.line.specs.declared.refusal.Refusal.TheVariants.{OutOfRange}
 use Rattle.line.specs.declared.format.Format.{Format}
-use Rattle.line.proofs.Bits.{stop_most}
-use Rattle.line.specs.Frames.{first_stop}
 use Rattle.ends.specs.Times.{sum, start_of, Inside}
 use Rattle.port.specs.Port.{InRange, sample_at, samples, Spaced, port_times, timed}
 

@@ -1,9 +1,9 @@
 -- The look-up of a row, and tests that are computed over the whole table.
-use Rattle.std.proofs.Common.{◌≡◌, ℕ, zero, suc, ◌+◌, ◌<◌, ◌≤◌, Bool, true, false, cond, not, ◌&&◌, T, eqb, leb, List, [], ◌∷◌, length, get_or, drop, Some, None, Option, sym, refl, ap, ◌∙◌, subst, ⊎_elim, arith, eq-eqb, eqb-true}
+use Rattle.std.proofs.Common.{◌≡◌, ℕ, zero, suc, ◌+◌, ◌<◌, ◌≤◌, Bool, true, false, not, ◌&&◌, T, eqb, leb, List, [], ◌∷◌, length, get_or, drop, Some, None, sym, refl, ap, ◌∙◌, subst, ⊎_elim, arith, eq-eqb, eqb-true}
 use Rattle.std.proofs.lemmas.List.{at_drop_more, at_drop_all}
 use Rattle.std.proofs.lemmas.Bool.{and_from, and_parts, cond-true, cond-false, cases_Bool, leb-true}
 use Rattle.usart.specs.declared.built.Row.{Row}
-use Rattle.usart.specs.Table.{rows, blank, Has, pair, lookup, Distinct, InRange}
+use Rattle.usart.specs.Table.{rows, blank, Has, lookup, Distinct, InRange}
 
 abbrev same : Row → ℕ → ℕ → Bool
 same r c b = eqb r.clock c && eqb r.baud b

@@ -1,6 +1,5 @@
 -- The look-up answers exactly the row.
 use Rattle.std.proofs.Common.{◌≡◌, ℕ, Some, None, Option, sym, refl, ap, ◌∙◌, arith}
-use Rattle.usart.specs.declared.built.Row.{Row}
 use Rattle.usart.specs.Table.{rows, pair, lookup}
 use Rattle.usart.proofs.Rows.{distinct, in_range, the_row, one_has, some_found, rows_length}
 use Rattle.usart.proofs.built.built_in.Goals as goal
