@@ -18,7 +18,7 @@ pub struct ReceiveQueue<R: Receiver> {
 impl<R: Receiver> ReceiveQueue<R> {
     pub fn new(below: R) -> ReceiveQueue<R>
         ensures below { result.below ≡ below }
-        ensures meaning { queued_from (meaning result.below) (items result.held) ≡ queued_from (meaning below) [] }
+        ensures meaning { queued_from (R.meaning result.below) (items result.held) ≡ queued_from (R.meaning below) [] }
     {
         ReceiveQueue {
             below,
@@ -28,8 +28,8 @@ impl<R: Receiver> ReceiveQueue<R> {
 
     // Takes over what is unread below, so that an entry is left there only where the queue is full.
     fn take_over(&mut self)
-        ensures same { queued_from (meaning self.new.below) (items self.new.held) ≡ queued_from (meaning self.old.below) (items self.old.held) }
-        ensures emptied { self.new.held.count < 16 → (meaning self.new.below).unread ≡ [] }
+        ensures same { queued_from (R.meaning self.new.below) (items self.new.held) ≡ queued_from (R.meaning self.old.below) (items self.old.held) }
+        ensures emptied { self.new.held.count < 16 → (R.meaning self.new.below).unread ≡ [] }
     {
         while self.held.count < PLACES {
             let Ok(entry) = self.below.read() else {

@@ -19,7 +19,7 @@ pub struct SendQueue<S: Sender> {
 impl<S: Sender> SendQueue<S> {
     pub fn new(below: S) -> SendQueue<S>
         ensures below { result.below ≡ below }
-        ensures meaning { queued_to (meaning result.below) (items result.held) ≡ queued_to (meaning below) [] }
+        ensures meaning { queued_to (S.meaning result.below) (items result.held) ≡ queued_to (S.meaning below) [] }
     {
         SendQueue {
             below,
@@ -29,8 +29,8 @@ impl<S: Sender> SendQueue<S> {
 
     // Hands down what fits, so that a character is held only where the sender below is full.
     fn hand_down(&mut self)
-        ensures same { queued_to (meaning self.new.below) (items self.new.held) ≡ queued_to (meaning self.old.below) (items self.old.held) }
-        ensures full { 0 < self.new.held.count → length (meaning self.new.below).waiting ≡ (meaning self.new.below).capacity }
+        ensures same { queued_to (S.meaning self.new.below) (items self.new.held) ≡ queued_to (S.meaning self.old.below) (items self.old.held) }
+        ensures full { 0 < self.new.held.count → length (S.meaning self.new.below).waiting ≡ (S.meaning self.new.below).capacity }
     {
         while let Some(character) = self.held.oldest() {
             // `load` lets no wider character in, but only the cut shows it
