@@ -1,7 +1,7 @@
 // A capture of a line, of any length, scanned piece by piece.
 use super::lines::chosen;
 use super::options::{check_words, option, other};
-use anyhow::anyhow;
+use anyhow::bail;
 use ends::Timing;
 use picture::Scanner;
 use shows::{Flags, readable};
@@ -59,15 +59,12 @@ fn no_level(piece: &[u8]) -> Option<usize> {
 }
 
 // Refuses a piece with a byte that is no level, and says where it stands.
-fn check_piece(rt: &HostRuntime, piece: &[u8], before: u64) -> anyhow::Result<()> {
+fn check_piece(piece: &[u8], before: u64) -> anyhow::Result<()> {
     let Some(at) = no_level(piece) else {
         return Ok(());
     };
     let place = before.saturating_add(at as u64);
-    Err(anyhow!(format!(
-        rt.alloc(),
-        "byte {place} of the capture is no level: it is neither 0 nor 1"
-    )?))
+    bail!("byte {place} of the capture is no level: it is neither 0 nor 1")
 }
 
 // Looks through a whole capture before anything is written; answers how many bytes it has.
@@ -80,7 +77,7 @@ fn check_capture<I: Read>(rt: &HostRuntime, input: &mut I) -> anyhow::Result<u64
             break;
         }
         if count <= buffer.len() {
-            check_piece(rt, &buffer.as_slice()[..count], before)?;
+            check_piece(&buffer.as_slice()[..count], before)?;
         }
         before = before.saturating_add(count as u64);
     }
@@ -111,9 +108,9 @@ fn scan_capture<I: Read>(
         }
         if count <= buffer.len() {
             let piece = &buffer.as_slice()[..count];
-            check_piece(rt, piece, before)?;
+            check_piece(piece, before)?;
             let Ok(found) = scanner.scan(piece, entries.as_mut_slice()) else {
-                return Err(anyhow!("a piece of the capture has too many entries"));
+                bail!("a piece of the capture has too many entries");
             };
             for entry in entries.as_slice().iter().take(found) {
                 print_entry(rt, style, *entry)?;
@@ -133,38 +130,35 @@ fn scan_capture<I: Read>(
 
 fn scan_file(rt: &HostRuntime, timing: &Timing, style: Style, name: &str) -> anyhow::Result<()> {
     let Ok(mut first) = File::open(rt, name) else {
-        return Err(anyhow!(format!(rt.alloc(), "the file '{name}' cannot be opened")?));
+        bail!("the file '{name}' cannot be opened");
     };
     if check_capture(rt, &mut first)? == 0 {
-        return Err(anyhow!(format!(rt.alloc(), "the capture '{name}' is empty")?));
+        bail!("the capture '{name}' is empty");
     }
     let Ok(mut file) = File::open(rt, name) else {
-        return Err(anyhow!(format!(rt.alloc(), "the file '{name}' cannot be opened again")?));
+        bail!("the file '{name}' cannot be opened again");
     };
     let _ = scan_capture(rt, timing, style, &mut file)?;
     Ok(())
 }
 
 pub fn command(rt: &HostRuntime, words: &[String]) -> anyhow::Result<()> {
-    check_words(rt, words, &OPTIONS, 1)?;
+    check_words(words, &OPTIONS, 1)?;
     let style = match option(words, &OPTIONS, "--as") {
         None | Some("text") => Style::Text,
         Some("hex") => Style::Hex,
         Some("decimal") => Style::Decimal,
         Some(word) => {
-            return Err(anyhow!(format!(
-                rt.alloc(),
-                "--as: '{word}' is none of text, hex and decimal"
-            )?));
+            bail!("--as: '{word}' is none of text, hex and decimal");
         }
     };
-    let timing = chosen(rt, words, &OPTIONS)?;
+    let timing = chosen(words, &OPTIONS)?;
     match other(words, &OPTIONS, 0) {
         Some(name) => scan_file(rt, &timing, style, name),
         None => {
             let bytes = scan_capture(rt, &timing, style, &mut rt.stdin())?;
             if bytes == 0 {
-                return Err(anyhow!("the capture on standard input is empty"));
+                bail!("the capture on standard input is empty");
             }
             Ok(())
         }

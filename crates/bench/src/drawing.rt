@@ -1,7 +1,7 @@
 // Text drawn as a sender puts it on the line: as bytes, as runs of equal levels, or as a file for a waveform viewer.
 use super::lines::chosen;
 use super::options::{check_words, option, other};
-use anyhow::anyhow;
+use anyhow::bail;
 use ends::Timing;
 use picture::{draw, run_length};
 use std::io;
@@ -105,7 +105,7 @@ fn draw_text(rt: &HostRuntime, timing: &Timing, style: Style, text: &str) -> any
     write_head(rt, style)?;
     for character in text.bytes() {
         let Ok(clocks) = draw(timing, &[u16::from(character)], frame.as_mut_slice()) else {
-            return Err(anyhow!("a character has more bits than the format"));
+            bail!("a character has more bits than the format");
         };
         if clocks > frame.len() {
             return Ok(());
@@ -135,24 +135,21 @@ fn all_narrow(timing: &Timing, text: &str) -> bool {
 }
 
 pub fn command(rt: &HostRuntime, words: &[String]) -> anyhow::Result<()> {
-    check_words(rt, words, &OPTIONS, 1)?;
+    check_words(words, &OPTIONS, 1)?;
     let style = match option(words, &OPTIONS, "--as") {
         None | Some("runs") => Style::Runs,
         Some("bytes") => Style::Bytes,
         Some("vcd") => Style::Vcd,
         Some(word) => {
-            return Err(anyhow!(format!(
-                rt.alloc(),
-                "--as: '{word}' is none of runs, bytes and vcd"
-            )?));
+            bail!("--as: '{word}' is none of runs, bytes and vcd");
         }
     };
-    let timing = chosen(rt, words, &OPTIONS)?;
+    let timing = chosen(words, &OPTIONS)?;
     let Some(text) = other(words, &OPTIONS, 0) else {
-        return Err(anyhow!("the text is missing; 'bench draw --help' says more"));
+        bail!("the text is missing; 'bench draw --help' says more");
     };
     if !all_narrow(&timing, text) {
-        return Err(anyhow!("a character of the text has more bits than the format"));
+        bail!("a character of the text has more bits than the format");
     }
     draw_text(rt, &timing, style, text)
 }

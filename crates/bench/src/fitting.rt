@@ -1,7 +1,7 @@
 // Whether one pair of ends fits at a pair of rates.
 use super::lines::end_named;
 use super::options::{check_words, format, number, other};
-use anyhow::anyhow;
+use anyhow::bail;
 use ends::{BareReceiver, BareSender};
 use line::Refusal;
 use link::{Verdict, fit};
@@ -33,32 +33,20 @@ fn print_range(
 }
 
 // The word with this number, or a complaint that it is missing.
-fn needed<'a>(
-    rt: &HostRuntime,
-    words: &'a [String],
-    at: usize,
-    what: &str,
-) -> anyhow::Result<&'a str> {
+fn needed<'a>(words: &'a [String], at: usize, what: &str) -> anyhow::Result<&'a str> {
     match other(words, &OPTIONS, at) {
         Some(word) => Ok(word),
-        None => Err(anyhow!(format!(
-            rt.alloc(),
-            "the {what} is missing; 'bench fit --help' says more"
-        )?)),
+        None => bail!("the {what} is missing; 'bench fit --help' says more"),
     }
 }
 
 pub fn command(rt: &HostRuntime, words: &[String]) -> anyhow::Result<()> {
-    check_words(rt, words, &OPTIONS, 4)?;
-    let format = format(rt, words, &OPTIONS)?;
-    let from = end_named(rt, format, needed(rt, words, 0, "sender")?)?;
-    let send = number(rt, needed(rt, words, 1, "sender's rate")?, "sender's rate")?;
-    let to = end_named(rt, format, needed(rt, words, 2, "receiver")?)?;
-    let receive = number(
-        rt,
-        needed(rt, words, 3, "receiver's rate")?,
-        "receiver's rate",
-    )?;
+    check_words(words, &OPTIONS, 4)?;
+    let format = format(words, &OPTIONS)?;
+    let from = end_named(format, needed(words, 0, "sender")?)?;
+    let send = number(needed(words, 1, "sender's rate")?, "sender's rate")?;
+    let to = end_named(format, needed(words, 2, "receiver")?)?;
+    let receive = number(needed(words, 3, "receiver's rate")?, "receiver's rate")?;
     let rates = Rates { send, receive };
     let sender = BareSender::new(from);
     let receiver = BareReceiver::new(to);
@@ -84,8 +72,8 @@ pub fn command(rt: &HostRuntime, words: &[String]) -> anyhow::Result<()> {
         Ok(Verdict::Late(bit)) => println!(rt;
             "They do not fit: bit {bit} of a frame can be sampled after it has left the line."
         )?,
-        Err(Refusal::OutOfRange) => return Err(anyhow!("a rate is not from 1 to 16777216 Hz")),
-        Err(_) => return Err(anyhow!("the two formats do not agree")),
+        Err(Refusal::OutOfRange) => bail!("a rate is not from 1 to 16777216 Hz"),
+        Err(_) => bail!("the two formats do not agree"),
     }
     Ok(())
 }

@@ -9,9 +9,10 @@ mod lines;
 mod options;
 mod settings_sheet;
 
-use anyhow::anyhow;
+use anyhow::bail;
 use options::check_plain;
 use std::env;
+use std::process::ExitCode;
 
 const SAMPLE: &str = "2026-11-17 08:59 opened, key 4";
 
@@ -52,12 +53,13 @@ const CHIP_HELP: &str = "usage: bench chip
 Sets a chip up register by register, as firmware does, releases it, and has it hear
 a character of its own; each access to a register is shown.";
 
-fn main(rt: HostRuntime) -> anyhow::Result<()> {
-    let done = start(&rt);
-    if let Err(error) = &done {
-        eprintln!(rt; "bench: {error}")?;
-    }
-    done
+// An error is told in one line. Where standard error cannot be written, the status alone tells it.
+fn main(rt: HostRuntime) -> ExitCode {
+    let Err(error) = start(&rt) else {
+        return ExitCode::SUCCESS;
+    };
+    let _ = eprintln!(rt; "bench: {error}");
+    ExitCode::FAILURE
 }
 
 fn start(rt: &HostRuntime) -> anyhow::Result<()> {
@@ -92,11 +94,8 @@ fn wants_help(words: &[String]) -> bool {
     }
 }
 
-fn unknown(rt: &HostRuntime, word: &str) -> anyhow::Result<()> {
-    Err(anyhow!(format!(
-        rt.alloc(),
-        "unknown word '{word}'; 'bench --help' says which there are"
-    )?))
+fn unknown(word: &str) -> anyhow::Result<()> {
+    bail!("unknown word '{word}'; 'bench --help' says which there are")
 }
 
 fn help(rt: &HostRuntime, word: &str) -> anyhow::Result<()> {
@@ -109,7 +108,7 @@ fn help(rt: &HostRuntime, word: &str) -> anyhow::Result<()> {
         "demo" => DEMO_HELP,
         "link" => LINK_HELP,
         "chip" => CHIP_HELP,
-        _ => return unknown(rt, word),
+        _ => return unknown(word),
     };
     Ok(rt.println(text)?)
 }
@@ -122,22 +121,22 @@ fn dispatch(rt: &HostRuntime, word: &str, rest: &[String]) -> anyhow::Result<()>
         "draw" => drawing::command(rt, rest),
         "scan" => capture::command(rt, rest),
         "table" => {
-            check_plain(rt, rest, 0)?;
+            check_plain(rest, 0)?;
             Ok(shows::print_table(rt)?)
         }
         "chip" => {
-            check_plain(rt, rest, 0)?;
+            check_plain(rest, 0)?;
             Ok(shows::drive(rt)?)
         }
-        "demo" => shows::demo(rt, record(rt, rest)?),
-        "link" => shows::join(rt, record(rt, rest)?),
-        _ => unknown(rt, word),
+        "demo" => shows::demo(rt, record(rest)?),
+        "link" => shows::join(rt, record(rest)?),
+        _ => unknown(word),
     }
 }
 
 // The record that a demonstration takes.
-fn record<'a>(rt: &HostRuntime, words: &'a [String]) -> anyhow::Result<&'a str> {
-    check_plain(rt, words, 1)?;
+fn record<'a>(words: &'a [String]) -> anyhow::Result<&'a str> {
+    check_plain(words, 1)?;
     match words.first() {
         Some(word) => Ok(word.as_str()),
         None => Ok(SAMPLE),

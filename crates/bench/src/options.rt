@@ -1,5 +1,5 @@
 // The words that follow a command: options, each with a value, and others.
-use anyhow::anyhow;
+use anyhow::bail;
 use line::Format;
 use words::format_named;
 
@@ -13,12 +13,7 @@ fn is_option(word: &str, options: &[&str]) -> bool {
 }
 
 // Refuses words that the command does not know, options without a value, and more than `most` other words.
-pub fn check_words(
-    rt: &HostRuntime,
-    words: &[String],
-    options: &[&str],
-    most: usize,
-) -> anyhow::Result<()> {
+pub fn check_words(words: &[String], options: &[&str], most: usize) -> anyhow::Result<()> {
     let mut needs_value = false;
     let mut others = 0usize;
     for word in words {
@@ -28,29 +23,29 @@ pub fn check_words(
         } else if is_option(text, options) {
             needs_value = true;
         } else if text.starts_with("--") {
-            return Err(anyhow!(format!(rt.alloc(), "unknown option '{text}'")?));
+            bail!("unknown option '{text}'");
         } else {
             others = others.saturating_add(1);
             if others > most {
-                return Err(anyhow!(format!(rt.alloc(), "one word too many: '{text}'")?));
+                bail!("one word too many: '{text}'");
             }
         }
     }
     if needs_value {
-        return Err(anyhow!("the last option has no value"));
+        bail!("the last option has no value");
     }
     Ok(())
 }
 
 // The same for a command without options.
-pub fn check_plain(rt: &HostRuntime, words: &[String], most: usize) -> anyhow::Result<()> {
+pub fn check_plain(words: &[String], most: usize) -> anyhow::Result<()> {
     for (i, word) in words.iter().enumerate() {
         let text = word.as_str();
         if text.starts_with("--") {
-            return Err(anyhow!(format!(rt.alloc(), "unknown option '{text}'")?));
+            bail!("unknown option '{text}'");
         }
         if i >= most {
-            return Err(anyhow!(format!(rt.alloc(), "one word too many: '{text}'")?));
+            bail!("one word too many: '{text}'");
         }
     }
     Ok(())
@@ -96,42 +91,38 @@ pub fn other<'a>(words: &'a [String], options: &[&str], number: usize) -> Option
 }
 
 // A number: decimal, or hexadecimal with an h behind it.
-pub fn number(rt: &HostRuntime, text: &str, what: &str) -> anyhow::Result<u32> {
+pub fn number(text: &str, what: &str) -> anyhow::Result<u32> {
     let value = match text.strip_suffix("h") {
         Some(digits) => u32::from_str_radix(digits, 16),
         None => text.parse::<u32>(),
     };
     match value {
         Ok(value) => Ok(value),
-        Err(_) => Err(anyhow!(format!(rt.alloc(), "{what}: '{text}' is no number")?)),
+        Err(_) => bail!("{what}: '{text}' is no number"),
     }
 }
 
 // The value of a numeric option, or another where it was not given.
 pub fn numeric(
-    rt: &HostRuntime,
     words: &[String],
     options: &[&str],
     name: &str,
     otherwise: u32,
 ) -> anyhow::Result<u32> {
     match option(words, options, name) {
-        Some(text) => number(rt, text, name),
+        Some(text) => number(text, name),
         None => Ok(otherwise),
     }
 }
 
 // The format that --format names, or 8N1.
-pub fn format(rt: &HostRuntime, words: &[String], options: &[&str]) -> anyhow::Result<Format> {
+pub fn format(words: &[String], options: &[&str]) -> anyhow::Result<Format> {
     let name = match option(words, options, "--format") {
         Some(name) => name,
         None => "8N1",
     };
     match format_named(name.as_bytes()) {
         Some(format) => Ok(format),
-        None => Err(anyhow!(format!(
-            rt.alloc(),
-            "--format: '{name}' is no format; 8N1, 7E2 and 8AO1 are some"
-        )?)),
+        None => bail!("--format: '{name}' is no format; 8N1, 7E2 and 8AO1 are some"),
     }
 }

@@ -22,25 +22,34 @@ mod tally;
 mod times;
 mod transmit;
 
-use anyhow::anyhow;
+use anyhow::bail;
 use std::io;
+use std::process::ExitCode;
 use tally::Tally;
 
-fn main(rt: HostRuntime) -> anyhow::Result<()> {
+// An error is told in one line. Where standard error cannot be written, the status alone tells it.
+fn main(rt: HostRuntime) -> ExitCode {
+    let Err(error) = start(&rt) else {
+        return ExitCode::SUCCESS;
+    };
+    let _ = eprintln!(rt; "compare: {error}");
+    ExitCode::FAILURE
+}
+
+fn start(rt: &HostRuntime) -> anyhow::Result<()> {
     let same = [
-        told(&rt, "frames", frames::compare_frames(&rt)?)?,
-        told(&rt, "bit lengths and samples", frames::compare_times(&rt)?)?,
-        told(&rt, "pictures drawn", pictures::compare(&rt)?)?,
-        told(&rt, "pictures scanned", scans::compare(&rt)?)?,
-        told(&rt, "rates that fit or not", fits::compare(&rt)?)?,
-        told(&rt, "links", links::compare(&rt)?)?,
-        told(&rt, "chips", chips::compare(&rt)?)?,
+        told(rt, "frames", frames::compare_frames(rt)?)?,
+        told(rt, "bit lengths and samples", frames::compare_times(rt)?)?,
+        told(rt, "pictures drawn", pictures::compare(rt)?)?,
+        told(rt, "pictures scanned", scans::compare(rt)?)?,
+        told(rt, "rates that fit or not", fits::compare(rt)?)?,
+        told(rt, "links", links::compare(rt)?)?,
+        told(rt, "chips", chips::compare(rt)?)?,
     ];
     if same == [true; 7] {
         return Ok(());
     }
-    eprintln!(rt; "compare: the library and the second emulator differ")?;
-    Err(anyhow!("the library and the second emulator differ"))
+    bail!("the library and the second emulator differ")
 }
 
 // Prints the line of a kind, and says whether all its cases are the same.

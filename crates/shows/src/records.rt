@@ -1,6 +1,6 @@
 // A record drawn and scanned back, the table of settings, a lock joined to two laptops.
 use super::flags::Flags;
-use anyhow::anyhow;
+use anyhow::bail;
 use ends::{BareReceiver, BareSender, Kind, Receiver, Sender, Timing};
 use line::{Format, Refusal};
 use link::{Link, Verdict, fit};
@@ -26,10 +26,10 @@ const LAPTOP_DIVIDER: u16 = 24;
 
 pub fn demo(rt: &HostRuntime, record: &str) -> anyhow::Result<()> {
     if record.is_empty() {
-        return Err(anyhow!("the record is empty"));
+        bail!("the record is empty");
     }
     let Ok(timing) = lock_timing() else {
-        return Err(anyhow!("the lock's settings are out of range"));
+        bail!("the lock's settings are out of range");
     };
     let mut picture = drawn(rt, &timing, record)?;
     print_sent(rt, record, picture.as_slice())?;
@@ -55,7 +55,7 @@ fn drawn(rt: &HostRuntime, timing: &Timing, record: &str) -> anyhow::Result<Vec<
     }
     let mut picture = vec![in rt.alloc(); 0; MOST_CLOCKS]?;
     let Ok(clocks) = draw(timing, characters.as_slice(), picture.as_mut_slice()) else {
-        return Err(anyhow!("the record has more than 4,096 characters"));
+        bail!("the record has more than 4,096 characters");
     };
     picture.truncate(clocks);
     Ok(picture)
@@ -64,7 +64,7 @@ fn drawn(rt: &HostRuntime, timing: &Timing, record: &str) -> anyhow::Result<Vec<
 fn scanned(rt: &HostRuntime, timing: &Timing, picture: &[u8]) -> anyhow::Result<Vec<(u16, u8)>> {
     let mut entries = vec![in rt.alloc(); (0, 0); picture.len()]?;
     let Ok(count) = scan(timing, picture, entries.as_mut_slice()) else {
-        return Err(anyhow!("the picture has a byte that is no level"));
+        bail!("the picture has a byte that is no level");
     };
     entries.truncate(count);
     Ok(entries)
@@ -210,10 +210,10 @@ fn print_row(rt: &HostRuntime, row: Row) -> io::Result<()> {
 // A lock and two laptops, one of which has a clock that is off.
 pub fn join(rt: &HostRuntime, record: &str) -> anyhow::Result<()> {
     let Ok(lock) = lock_timing() else {
-        return Err(anyhow!("the lock's settings are out of range"));
+        bail!("the lock's settings are out of range");
     };
     let Ok(laptop) = laptop_timing() else {
-        return Err(anyhow!("the laptop's settings are out of range"));
+        bail!("the laptop's settings are out of range");
     };
     println!(rt;
         "Lock:    divider {DIVIDER}, modulator {MODULATOR:02X}h, 8N1, clocked at {CLOCK_HERTZ} Hz"

@@ -109,8 +109,8 @@ fn print_row(rt: &HostRuntime, row: Row, hertz: u32, format: Format) -> anyhow::
         return Ok(());
     };
     print!(rt; "  {nearest:>4}")?;
-    let lock = usart_timing(rt, format, u32::from(divider), u32::from(modulator))?;
-    let laptop = port_timing(rt, format, u32::from(nearest))?;
+    let lock = usart_timing(format, u32::from(divider), u32::from(modulator))?;
+    let laptop = port_timing(format, u32::from(nearest))?;
     print_way(rt, to_laptop(&lock, &laptop, clock, hertz))?;
     print_way(rt, to_lock(&lock, &laptop, clock, hertz))?;
     println!(rt; "")?;
@@ -120,7 +120,7 @@ fn print_row(rt: &HostRuntime, row: Row, hertz: u32, format: Format) -> anyhow::
 // Prints the sheet for a laptop's clock and a format.
 pub fn print_sheet(rt: &HostRuntime, hertz: u32, name: &str, format: Format) -> anyhow::Result<()> {
     // a format that the port does not have is refused before anything is printed
-    let _ = port_timing(rt, format, 1)?;
+    let _ = port_timing(format, 1)?;
     println!(rt; "Settings built into locks, {name}, and a laptop's port clocked at {hertz} Hz")?;
     println!(rt; "")?;
     println!(rt; "         lock's settings        port  lock to laptop         laptop to lock")?;
