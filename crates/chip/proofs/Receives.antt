@@ -1,8 +1,8 @@
 -- What is loaded into URXBUF is what a bare receiver takes down.
-use Rattle.std.proofs.Common.{◌≡◌, ℕ, ◌≤◌, Bool, true, false, cond, not, ◌&&◌, ◌||◌, eqb, leb, List, [], ◌∷◌, ◌++◌, length, Some, Option, sym, refl, ap, ◌∙◌, subst, ap₂, arith}
+use Rattle.std.proofs.Common.{◌≡◌, ℕ, ◌≤◌, Bool, true, false, cond, not, ◌&&◌, ◌||◌, eqb, List, [], ◌∷◌, ◌++◌, length, Some, Option, sym, refl, ap, ◌∙◌, subst, ap₂, arith}
 use Rattle.line.specs.declared.level.Level.{Level}
-use Rattle.ends.specs.Sender.{SenderState, empty, after_send}
-use Rattle.ends.specs.Receiver.{ReceiverState, Entry, hears, after_clock as heard_clock, after_read as heard_read, without_oldest}
+use Rattle.ends.specs.Sender.{empty, after_send}
+use Rattle.ends.specs.Receiver.{ReceiverState, Entry, hears, after_clock as heard_clock, without_oldest}
 use Rattle.ends.specs.Runs.{taken_down}
 use Rattle.ends.proofs.Reading.{one_at_most, unread_apart}
 use Rattle.chip.specs.declared.mode.Mode.{Mode}
@@ -11,7 +11,7 @@ use Rattle.chip.specs.declared.receive.Receive.{Receive}
 use Rattle.chip.specs.declared.rate.Rate.{Rate}
 use Rattle.chip.specs.Receiving.{address_bit, let_through, byte_in, taken, all_taken, cleared}
 use Rattle.chip.specs.Pairs.{EndsState, seen, arrivals, ends_clocked}
-use Rattle.chip.specs.Chips.{ChipState, leaves, done, after_read, after_clock}
+use Rattle.chip.specs.Chips.{ChipState, leaves, done, after_read}
 use Rattle.chip.specs.Laws.{seen_levels, admitted, polled, after_clocks, last_of, overruns, Loaded, Receives}
 
 -- only the enables decide what is let through

@@ -1,20 +1,20 @@
 -- The levels on UTXD are those of a bare sender.
-use Rattle.std.proofs.Common.{◌≡◌, ℕ, ◌+◌, ◌^◌, ◌<◌, ◌≤◌, Bool, true, false, cond, not, ◌&&◌, ◌||◌, eqb, List, [], ◌∷◌, ◌++◌, length, Some, None, Ok, Err, Option, Result, sym, refl, ap, ◌∙◌, subst, ap₂, arith}
+use Rattle.std.proofs.Common.{◌≡◌, ℕ, ◌^◌, ◌<◌, ◌≤◌, Bool, true, false, cond, ◌&&◌, ◌||◌, eqb, List, [], ◌∷◌, ◌++◌, length, Some, Ok, Err, Option, Result, sym, refl, ap, ◌∙◌, subst, ap₂, arith}
 use Rattle.std.proofs.lemmas.Bool.{eqb-true}
 use Rattle.line.specs.declared.level.Level.{Level}
 use Rattle.line.specs.declared.refusal.Refusal.{Refusal}
 use Rattle.line.specs.declared.refusal.Refusal.TheVariants.{Closed, Full}
 use Rattle.line.specs.Frames.{width}
-use Rattle.ends.specs.Sender.{SenderState, empty, accepted, load_answer, after_load, sent, after_send, holding as sender_holding}
+use Rattle.ends.specs.Sender.{SenderState, empty, accepted, sent, after_send}
 use Rattle.chip.specs.declared.mode.Mode.{Mode}
 use Rattle.chip.specs.declared.transmit.Transmit.{Transmit}
 use Rattle.chip.specs.declared.receive.Receive.{Receive}
 use Rattle.chip.specs.declared.rate.Rate.{Rate}
 use Rattle.chip.specs.Bytes.{has}
-use Rattle.chip.specs.Modes.{mode_of, format_of, character_of}
+use Rattle.chip.specs.Modes.{format_of, character_of}
 use Rattle.chip.specs.Pairs.{EndsState, ends_clocked, ends_loaded}
-use Rattle.chip.specs.Chips.{ChipState, holding, running, resets, write_answer, written, after_write, clocked, after_clock, ends_written, begun, loaded, leaves, on_line, utxd}
-use Rattle.chip.specs.Acts.{Act, writes, reads, clocks, NoReset, on_utxd, Step, loads, ticks, said, AllTaken, loading, steps}
+use Rattle.chip.specs.Chips.{ChipState, holding, running, resets, write_answer, written, clocked, leaves, on_line, utxd}
+use Rattle.chip.specs.Acts.{Act, writes, reads, clocks, NoReset, on_utxd, Step, loads, said, AllTaken, steps}
 use Rattle.chip.specs.Laws.{Speaks}
 use Rattle.chip.proofs.Clocks.{room_after, send_format, send_capacity, few_after}
 use Rattle.chip.proofs.Writes.{narrow, load_taken, waits_then, load_format, load_capacity, load_few}

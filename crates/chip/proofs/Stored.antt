@@ -1,5 +1,5 @@
 -- A byte that is stored is read back.
-use Rattle.std.proofs.Common.{◌≡◌, ℕ, zero, suc, ◌<◌, ◌≤◌, Bool, true, false, cond, not, ◌&&◌, ◌||◌, eqb, ◌⊎◌, is_some, Some, None, Ok, Err, Option, Result, sym, refl, ap, ◌∙◌, subst, ap₂, inl, inr, ⊎_elim, arith}
+use Rattle.std.proofs.Common.{◌≡◌, ℕ, zero, suc, ◌<◌, ◌≤◌, Bool, true, false, cond, not, ◌&&◌, ◌||◌, eqb, ◌⊎◌, is_some, Some, None, Ok, Err, Result, refl, ap, ◌∙◌, subst, inl, inr, ⊎_elim, arith}
 use lib.Bits.{bit_and, bit_or}
 use Rattle.std.proofs.lemmas.Bool.{eqb-true, and_parts, cases_lt}
 use Rattle.line.specs.declared.refusal.Refusal.{Refusal}
@@ -9,7 +9,6 @@ use Rattle.chip.specs.declared.transmit.Transmit.{Transmit}
 use Rattle.chip.specs.Bytes.{has, bit}
 use Rattle.chip.specs.Modes.{mode_of, mode_byte}
 use Rattle.chip.specs.Transmitting.{transmit_byte, utctl_written}
-use Rattle.chip.specs.Pairs.{EndsState}
 use Rattle.chip.specs.Chips.{ChipState, begun, released, write_answer, written, after_write, read_answer}
 use Rattle.chip.specs.Laws.{ReadBack}
 

@@ -1,6 +1,5 @@
 -- What the flags tell.
-use Rattle.std.proofs.Common.{◌≡◌, ℕ, Bool, true, false, ◌&&◌, ◌||◌, List, [], ◌∷◌, MatchBool, Option, sym, refl, ap, ◌∙◌, subst, arith}
-use Rattle.line.specs.declared.level.Level.{Level}
+use Rattle.std.proofs.Common.{◌≡◌, ℕ, Bool, true, false, ◌&&◌, ◌||◌, List, [], ◌∷◌, MatchBool, Option, sym, refl, ◌∙◌, subst, arith}
 use Rattle.ends.specs.Sender.{empty}
 use Rattle.chip.specs.declared.mode.Mode.{Mode}
 use Rattle.chip.specs.declared.transmit.Transmit.{Transmit}
@@ -9,7 +8,7 @@ use Rattle.chip.specs.declared.rate.Rate.{Rate}
 use Rattle.chip.specs.Bytes.{has, byte}
 use Rattle.chip.specs.Receiving.{any_error}
 use Rattle.chip.specs.Pairs.{EndsState}
-use Rattle.chip.specs.Chips.{ChipState, holding, waiting, left}
+use Rattle.chip.specs.Chips.{holding, waiting, left}
 use Rattle.chip.specs.Laws.{Tells}
 
 something : {T : Type 0} (x : T) (xs : List T) → x ∷ xs ≡ [] → ⊥

@@ -1,7 +1,7 @@
 -- Laws of the chip, over whole runs of acts and clocks.
 use Rattle.std.specs.Prelude.{◌≡◌, ℕ, ◌≤◌, Bool, true, false, cond, not, ◌||◌, List, [], ◌∷◌, length, Some, Ok, MatchBool, MatchResult, bit_and, bit_or}
 use Rattle.line.specs.declared.level.Level.{Level}
-use Rattle.ends.specs.Sender.{SenderState, empty}
+use Rattle.ends.specs.Sender.{empty}
 use Rattle.ends.specs.Receiver.{Entry}
 use Rattle.ends.specs.Runs.{spoken, taken_down}
 use Rattle.chip.specs.declared.mode.Mode.{Mode}

@@ -1,13 +1,10 @@
 -- UCTL: PENA PEV SP CHAR Listen SYNC MM SWRST, from bit 7 to bit 0. All but SWRST make the mode.
-use Rattle.std.specs.Prelude.{ℕ, ◌+◌, ◌%◌, ◌^◌, Bool, true, false, cond, ◌&&◌}
-use Rattle.line.specs.declared.format.DataBits.{DataBits}
+use Rattle.std.specs.Prelude.{ℕ, ◌+◌, ◌%◌, Bool, true, false, cond, ◌&&◌}
 use Rattle.line.specs.declared.format.DataBits.TheVariants.{Seven, Eight}
 use Rattle.line.specs.declared.format.Parity.{Parity}
 use Rattle.line.specs.declared.format.Parity.TheVariants.{Absent, Odd, Even}
-use Rattle.line.specs.declared.format.StopBits.{StopBits}
 use Rattle.line.specs.declared.format.StopBits.TheVariants.{One, Two}
 use Rattle.line.specs.declared.format.Format.{Format}
-use Rattle.line.specs.Frames.{data_count}
 use Rattle.chip.specs.declared.mode.Mode.{Mode}
 use Rattle.chip.specs.Bytes.{has, byte}
 

@@ -1,5 +1,5 @@
 -- The two ends of a chip, each of whose entries is read as it arrives.
-use Rattle.std.specs.Prelude.{ℕ, Bool, true, false, cond, List}
+use Rattle.std.specs.Prelude.{ℕ, Bool, cond, List}
 use Rattle.line.specs.declared.level.Level.{Level}
 use Rattle.ends.specs.Times.{Times}
 use Rattle.ends.specs.Sender.{SenderState, sent, after_send, after_load}

@@ -1,13 +1,12 @@
 -- What arrives at a clock is read at once.
-use Rattle.std.proofs.Common.{◌≡◌, Bool, cond, List, sym, ap, ◌∙◌, ap₂}
+use Rattle.std.proofs.Common.{◌≡◌, Bool, cond, sym, ap, ◌∙◌, ap₂}
 use Rattle.std.specs.Result.{result_ok}
 use Rattle.std.specs.Option.{option_to_list}
 use Rattle.line.specs.declared.level.Level.{Level}
 use Rattle.ends.specs.Sender.{sent}
-use Rattle.ends.specs.Receiver.{ReceiverState, Entry, oldest, hears, after_clock, after_read}
-use Rattle.ends.specs.BareReceiver.{meant}
-use Rattle.ends.proofs.Reading.{read_one, none_left}
-use Rattle.chip.specs.Pairs.{EndsState, ends_of, seen, arrivals, ends_clocked}
+use Rattle.ends.specs.Receiver.{ReceiverState, oldest, after_clock, after_read}
+use Rattle.ends.proofs.Reading.{read_one}
+use Rattle.chip.specs.Pairs.{EndsState, ends_of, seen}
 use Rattle.chip.proofs.pair.Ends.clock.Goals as goal
 use Rattle.chip.proofs.pair.Ends.clock.Goals.{then-listen, else-listen}
 

@@ -1,11 +1,10 @@
 -- A clock does to the registers what it does to the ends.
-use Rattle.std.proofs.Common.{◌≡◌, List, sym, refl, ap, ◌∙◌, rules}
+use Rattle.std.proofs.Common.{sym, refl, ap, ◌∙◌, rules}
 use Rattle.std.specs.Option.{option_to_list}
 use Rattle.line.specs.Frames.{width}
-use Rattle.ends.specs.Receiver.{Entry}
 use Rattle.chip.specs.declared.registers.Chip.{Chip}
 use Rattle.chip.specs.Receiving.{all_taken}
-use Rattle.chip.specs.Pairs.{EndsState, ends_of, arrivals}
+use Rattle.chip.specs.Pairs.{EndsState, ends_of}
 use Rattle.chip.specs.Chips.{chip_of}
 use Rattle.chip.specs.Laws.{Speaks}
 use Rattle.chip.proofs.Speaks.{chip_speaks}
@@ -19,10 +18,10 @@ module _ (k : Chip) where
   on_line = chip_speaks k.mode k.transmit k.receive k.rate k.swrst (ends_of k.ends) k.wide refl (one_waits k.ends.sender.waiting)
 
 pub invariant_of-self : goal.invariant_of-self
-invariant_of-self c = (λ on. ap (λ (e : EndsState). width e.sender.format) c.clock-utxd.ensures.state ∙ ap width (send_format (ends_of c.args.self.now.ends).sender) ∙ c.args.self.now.wide on, tt)
+invariant_of-self c = record { wide = λ on. ap (λ (e : EndsState). width e.sender.format) c.clock-utxd.ensures.state ∙ ap width (send_format (ends_of c.args.self.now.ends).sender) ∙ c.args.self.now.wide on }
 
 pub invariant_of-self-in_default : goal.invariant_of-self-in_default
-invariant_of-self-in_default c = (λ on. ap (λ (e : EndsState). width e.sender.format) c.clock-utxd.ensures.state ∙ ap width (send_format (ends_of c.args.self.now.ends).sender) ∙ c.args.self.now.wide on, tt)
+invariant_of-self-in_default c = record { wide = λ on. ap (λ (e : EndsState). width e.sender.format) c.clock-utxd.ensures.state ∙ ap width (send_format (ends_of c.args.self.now.ends).sender) ∙ c.args.self.now.wide on }
 
 pub returns-in-Some : goal.returns-in-Some
 returns-in-Some c =

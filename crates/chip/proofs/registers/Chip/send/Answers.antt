@@ -1,10 +1,9 @@
 -- A chip that may be written to takes the byte.
 use Rattle.std.proofs.Common.{◌≡◌, ℕ, ◌^◌, ◌<◌, true, Ok, Err, Option, Result, sym, refl, ap, ◌∙◌, subst, arith}
 use Rattle.line.specs.declared.refusal.Refusal.{Refusal}
-use Rattle.line.specs.Frames.{width}
 use Rattle.ends.specs.Sender.{SenderState, empty, load_answer}
 use Rattle.ends.specs.BareSender.{meant}
-use Rattle.chip.specs.Modes.{format_of, character_of}
+use Rattle.chip.specs.Modes.{character_of}
 use Rattle.chip.specs.Pairs.{EndsState, ends_of}
 use Rattle.chip.specs.Chips.{waiting}
 use Rattle.chip.proofs.Writes.{in_run, narrow, load_taken}

@@ -1,10 +1,9 @@
 -- The writes that do more than store a byte.
-use Rattle.std.proofs.Common.{◌≡◌, ℕ, Bool, true, false, cond, ltb, Some, None, Option, sym, refl, ap, ◌∙◌, ap₂, arith}
+use Rattle.std.proofs.Common.{◌≡◌, ℕ, false, cond, ltb, Some, None, Option, sym, refl, ap, ◌∙◌, ap₂, arith}
 use Rattle.ends.specs.Sender.{empty}
 use Rattle.chip.specs.declared.mode.Mode.{Mode}
 use Rattle.chip.specs.Bytes.{has}
-use Rattle.chip.specs.Modes.{mode_of, format_of, values, character_of}
-use Rattle.chip.specs.Transmitting.{unwoken, buffer_written}
+use Rattle.chip.specs.Transmitting.{unwoken}
 use Rattle.chip.specs.Receiving.{cleared}
 use Rattle.chip.specs.Pairs.{EndsState, ends_of}
 use Rattle.chip.specs.Chips.{ChipState, holding, running, divider, begun, write_answer, after_write, waiting}
