@@ -1,11 +1,10 @@
 -- Fit goes from bit to bit, and passes exactly where no bit is early or late.
-use Rattle.std.proofs.Common.{◌≡◌, ℕ, zero, suc, ◌+◌, ◌-◌, ◌*◌, ◌<◌, ◌≤◌, Bool, true, false, cond, ltb, List, [], ◌∷◌, length, get_or, take, sym, refl, ap, ◌∙◌, ap₂, ⊎_elim, arith}
-use Rattle.std.proofs.lemmas.Bool.{lt-ltb, le-ltb, ltb-true, ltb-false, cases_lt, cond-true, cond-false}
+use Rattle.std.proofs.Common.{◌≡◌, ℕ, zero, suc, ◌+◌, ◌-◌, ◌*◌, ◌<◌, ◌≤◌, Bool, ltb, List, [], ◌∷◌, get_or, sym, refl, ap, ◌∙◌, ap₂, ⊎_elim, arith}
+use Rattle.std.proofs.lemmas.Bool.{lt-ltb, le-ltb, cases_lt, cond-true, cond-false}
 use Rattle.line.specs.Frames.{first_stop}
-use Rattle.ends.specs.Times.{sum, start_of}
+use Rattle.ends.specs.Times.{start_of}
 use Rattle.ends.specs.Sender.{SenderState}
 use Rattle.ends.specs.Receiver.{ReceiverState, first_sample, third_sample}
-use Rattle.link.specs.declared.rates.Verdict.{Verdict}
 use Rattle.link.specs.declared.rates.Verdict.TheVariants.{Passes, Early as IsEarly, Late as IsLate}
 use Rattle.link.specs.Fit.{Early, Late, Fits}
 use Rattle.link.specs.Judging.{judged}

@@ -1,5 +1,5 @@
 -- What each act on a link answers.
-use Rattle.std.specs.Prelude.{ℕ, List, [], ◌∷◌, Ok, Err, Result}
+use Rattle.std.specs.Prelude.{List, [], ◌∷◌, Ok, Err, Result}
 use Rattle.line.specs.declared.refusal.Refusal.{Refusal}
 use Rattle.ends.specs.Sender.{SenderState, sent}
 use Rattle.ends.specs.Receiver.{ReceiverState, Entry, oldest}

@@ -1,5 +1,5 @@
 -- Fit passes exactly where steady clocks meet the sampling condition.
-use Rattle.std.proofs.Common.{◌≡◌, ℕ, ◌+◌, ◌<◌, ◌≤◌, Bool, true, false, cond, ◌&&◌, leb, Ok, Err, Result, sym, refl, ap, ◌∙◌, ap₂, arith}
+use Rattle.std.proofs.Common.{◌≡◌, ℕ, ◌+◌, ◌<◌, Bool, true, false, cond, ◌&&◌, leb, Ok, Err, Result, sym, refl, ap, ◌∙◌, ap₂}
 use Rattle.std.proofs.lemmas.Bool.{and_parts, leb-true}
 use Rattle.line.specs.declared.format.Format.{Format}
 use Rattle.line.specs.declared.refusal.Refusal.{Refusal}

@@ -1,7 +1,6 @@
 -- Each bit is judged by where it begins and ends and when it is sampled.
-use Rattle.std.proofs.Common.{◌≡◌, ℕ, ◌+◌, ◌-◌, ◌*◌, ◌^◌, ◌<◌, ◌≤◌, sym, refl, ap, ◌∙◌, arith, w64, Fits, rules}
+use Rattle.std.proofs.Common.{◌≡◌, ℕ, ◌+◌, ◌-◌, ◌*◌, ◌^◌, ◌<◌, ◌≤◌, sym, ap, ◌∙◌, arith, w64, Fits, rules}
 use Rattle.std.proofs.lemmas.Nat.{mul-le}
-use Rattle.line.specs.declared.format.Format.{Format}
 use Rattle.line.specs.Frames.{first_stop}
 use Rattle.line.proofs.Bits.{stop_most}
 use Rattle.link.specs.Judging.{judged}
