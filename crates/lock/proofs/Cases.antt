@@ -1,6 +1,5 @@
 -- The worked cases, computed.
 use Rattle.std.proofs.Common.{refl}
-use Rattle.std.specs.List.{range_with_len}
 use Rattle.port.specs.Port.{samples}
 use Rattle.usart.specs.Usart.{lengths, power_within}
 use Rattle.lock.specs.Worked.{Worked}

@@ -1,5 +1,5 @@
 -- Cases worked out by hand, as statements about the rules.
-use Rattle.std.specs.Prelude.{◌≡◌, ℕ, ◌+◌, ◌*◌, ◌^◌, false, List, [], ◌∷◌, ◌++◌, length, take, drop, replicate, Ok, Result}
+use Rattle.std.specs.Prelude.{◌≡◌, ℕ, ◌*◌, false, List, [], ◌∷◌, ◌++◌, length, take, drop, replicate, Ok, Result}
 use Rattle.line.specs.declared.level.Level.{Level}
 use Rattle.line.specs.declared.level.Level.TheVariants.{Space, Mark}
 use Rattle.line.specs.declared.format.DataBits.TheVariants.{Eight}

@@ -1,4 +1,4 @@
-use Rattle.std.proofs.Common.{ℕ, Ok, Result, ◌∙◌, ap₂}
+use Rattle.std.proofs.Common.{Ok, Result, ◌∙◌, ap₂}
 use Rattle.line.specs.declared.refusal.Refusal.{Refusal}
 use Rattle.ends.specs.Times.{Times}
 use Rattle.usart.specs.Usart.{usart_times}
