@@ -1,5 +1,5 @@
 -- What Fit answers, by the plain numbers of two ends.
-use Rattle.std.specs.Prelude.{◌≡◌, ℕ, IfOk, Ok, Err, Result, MatchResult}
+use Rattle.std.specs.Prelude.{◌≡◌, ℕ, IfOk, Result, MatchResult}
 use Rattle.line.specs.declared.refusal.Refusal.{Refusal}
 use Rattle.ends.specs.Times.{Times}
 use Rattle.ends.specs.BareSender.{resting as sender_at}

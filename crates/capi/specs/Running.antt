@@ -1,5 +1,5 @@
 -- What a run of a link answers, by the plain numbers of its ends and of the acts.
-use Rattle.std.specs.Prelude.{ℕ, cond, List, [], ◌∷◌, map, length, Ok, Err, Result, nat_lt}
+use Rattle.std.specs.Prelude.{ℕ, cond, List, [], map, length, Ok, Err, Result, nat_lt}
 use Rattle.line.specs.declared.level.Level.TheVariants.{Mark}
 use Rattle.line.specs.declared.refusal.Refusal.{Refusal}
 use Rattle.line.specs.declared.refusal.Refusal.TheVariants.{TooShort}

@@ -1,5 +1,5 @@
 -- What Fit says of two ends at rest, it says of their numbers.
-use Rattle.std.proofs.Common.{◌≡◌, ℕ, IfOk, Ok, Err, Result, ◌∙◌, subst, ap₂}
+use Rattle.std.proofs.Common.{◌≡◌, ℕ, IfOk, Result, ◌∙◌, subst, ap₂}
 use Rattle.line.specs.declared.refusal.Refusal.{Refusal}
 use Rattle.ends.specs.Times.{Times}
 use Rattle.ends.specs.Timed.{times_of}

@@ -1,4 +1,4 @@
-use Rattle.std.proofs.Common.{◌≡◌, ap, ◌∙◌, arith}
+use Rattle.std.proofs.Common.{ap, ◌∙◌, arith}
 use Rattle.link.specs.Link.{LinkState, after_act}
 use Rattle.link.specs.Acts.{link_of, answer}
 use Rattle.capi.specs.Translating.{told_answer}

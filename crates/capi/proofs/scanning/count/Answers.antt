@@ -1,6 +1,5 @@
-use Rattle.std.proofs.Common.{◌≡◌, ℕ, ◌+◌, List, ◌∷◌, ◌++◌, length, get_or, drop, ap, ◌∙◌, arith}
+use Rattle.std.proofs.Common.{◌+◌, ◌++◌, length, drop, ap, ◌∙◌, arith}
 use Rattle.std.specs.Option.{option_to_list}
-use Rattle.ends.specs.Receiver.{Entry}
 use Rattle.ends.specs.BareReceiver.{meant}
 use Rattle.ends.specs.Runs.{taken_down}
 use Rattle.picture.specs.Scanning.{levels}

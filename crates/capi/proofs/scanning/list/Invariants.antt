@@ -1,4 +1,4 @@
-use Rattle.std.proofs.Common.{◌≡◌, ◌+◌, ◌≤◌, [], ◌++◌, map, length, take, drop}
+use Rattle.std.proofs.Common.{◌≡◌, ◌≤◌, [], ◌++◌, map, length, take, drop}
 use Rattle.ends.specs.BareReceiver.{meant}
 use Rattle.ends.specs.Runs.{taken_down}
 use Rattle.picture.specs.Scanning.{levels}

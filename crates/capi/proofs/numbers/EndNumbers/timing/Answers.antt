@@ -1,5 +1,5 @@
 -- The times are those of the format that has the numbers, where there is one and the divider is large enough.
-use Rattle.std.proofs.Common.{◌≡◌, Ok, Err, Result, sym, ap, ◌∙◌, ap₂, rules}
+use Rattle.std.proofs.Common.{◌≡◌, Ok, Err, Result, sym, ◌∙◌, ap₂, rules}
 use Rattle.line.specs.declared.refusal.Refusal.{Refusal}
 use Rattle.line.specs.declared.refusal.Refusal.TheVariants.{OutOfRange}
 use Rattle.ends.specs.Times.{Times}
