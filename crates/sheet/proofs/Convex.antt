@@ -1,7 +1,6 @@
 -- The rates at which Fit passes have no gaps.
-use Rattle.std.proofs.Common.{◌≡◌, ℕ, ◌+◌, ◌*◌, ◌<◌, ◌≤◌, Bool, true, false, cond, ◌&&◌, leb, Ok, Err, Result, sym, refl, ap, ◌∙◌, subst, ap₂, mul-le-mul_left, arith}
+use Rattle.std.proofs.Common.{◌≡◌, ℕ, ◌+◌, ◌≤◌, Bool, true, false, cond, ◌&&◌, leb, Ok, Err, refl, ap₂, mul-le-mul_left, arith}
 use Rattle.std.proofs.lemmas.Bool.{and_parts, leb-true, le-leb}
-use Rattle.line.specs.declared.refusal.Refusal.{Refusal}
 use Rattle.line.specs.declared.refusal.Refusal.TheVariants.{OutOfRange, FormatsDiffer}
 use Rattle.line.specs.Formats.{agree}
 use Rattle.line.specs.Frames.{first_stop}
@@ -10,13 +9,13 @@ use Rattle.ends.specs.Sender.{SenderState}
 use Rattle.ends.specs.Receiver.{ReceiverState, first_sample, third_sample}
 use Rattle.link.specs.declared.rates.Verdict.{Verdict}
 use Rattle.link.specs.declared.rates.Verdict.TheVariants.{Passes, Early as IsEarly, Late as IsLate}
-use Rattle.link.specs.Fit.{Early, Late, Fits}
+use Rattle.link.specs.Fit.{Fits}
 use Rattle.link.specs.Judging.{judged, rate_in_range, fit_answer}
 use Rattle.link.proofs.Judging.{passes_fits, fits_passes}
 use Rattle.sheet.specs.declared.tolerance.Rates.{Rates}
 use Rattle.sheet.specs.declared.tolerance.Off.{Off}
 use Rattle.sheet.specs.declared.tolerance.Off.TheVariants.{Sender, Receiver}
-use Rattle.sheet.specs.Tolerance.{own_rate, is_pass, passes_at, UpTo, DownTo}
+use Rattle.sheet.specs.Tolerance.{is_pass, passes_at}
 
 -- what Fit needs to pass
 pub record Passing (s : SenderState) (r : ReceiverState) (a b : ℕ) : Type 0 where

@@ -1,10 +1,8 @@
 -- Rounding finds the nearest multiple.
-use Rattle.std.proofs.Common.{◌≡◌, ℕ, zero, suc, ◌+◌, ◌-◌, ◌*◌, ◌/◌, ◌%◌, ◌<◌, ◌≤◌, Bool, true, false, cond, ◌||◌, eqb, ltb, Ok, Err, Result, sym, refl, ap, ◌∙◌, subst, ap₂, ⊎_elim, mod-lt, mul-le-mul_left, mul-suc, arith}
+use Rattle.std.proofs.Common.{◌≡◌, ℕ, suc, ◌+◌, ◌*◌, ◌/◌, ◌<◌, ◌≤◌, Ok, ap, ⊎_elim, mod-lt, mul-le-mul_left, mul-suc, arith}
 use native.Mathlib.Nat.{div-add-mod}
 use Rattle.std.proofs.lemmas.Bool.{cases_lt, ne_eqb, le-ltb}
-use Rattle.line.specs.declared.refusal.Refusal.{Refusal}
-use Rattle.line.specs.declared.refusal.Refusal.TheVariants.{OutOfRange}
-use Rattle.sheet.specs.Divider.{apart, Nearest, rounded, nearest}
+use Rattle.sheet.specs.Divider.{apart, rounded, nearest}
 
 -- u × d lies within half of u of h, so no other multiple of u lies nearer
 nearer : (h u d other : ℕ) → 2 * (u * d) ≤ 2 * h + u → 2 * h ≤ 2 * (u * d) + u → apart (u * d) h ≤ apart (u * other) h

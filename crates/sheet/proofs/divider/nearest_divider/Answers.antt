@@ -1,5 +1,5 @@
 -- The rounded quotient is nearest.
-use Rattle.std.proofs.Common.{◌≡◌, ℕ, ◌*◌, Ok, Result, sym, ap, ◌∙◌, subst, ap₂}
+use Rattle.std.proofs.Common.{ℕ, ◌*◌, Result, ◌∙◌, subst, ap₂}
 use Rattle.line.specs.declared.refusal.Refusal.{Refusal}
 use Rattle.sheet.specs.Divider.{Nearest, rounded, nearest}
 use Rattle.sheet.proofs.Dividing.{rounds, nearest_is}

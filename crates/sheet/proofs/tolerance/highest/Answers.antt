@@ -1,5 +1,5 @@
 -- The two rates are neighbours, and between rates that pass there is none that does not.
-use Rattle.std.proofs.Common.{◌≡◌, ℕ, ◌+◌, ◌-◌, ◌≤◌, Bool, true, false, sym, ap, ◌∙◌, subst, arith}
+use Rattle.std.proofs.Common.{◌≡◌, ℕ, ◌+◌, false, subst, arith}
 use Rattle.sheet.specs.Tolerance.{own_rate, passes_at}
 use Rattle.sheet.proofs.Convex.{no_gaps}
 use Rattle.sheet.proofs.tolerance.highest.Goals as goal
