@@ -11,7 +11,7 @@ use Rattle.ends.specs.Sender.{SenderState, SoundSender, frame_levels}
 use Rattle.ends.specs.Receiver.{ReceiverState, SoundReceiver, Entry, Doing, idle, framing, counting, Heard, nothing, heard, heard_in_frame, with, decided, going_on, taken_now, falling_on, falling_before, first_sample, third_sample, last_sample, entry_of, after_frame, arrive}
 use Rattle.ends.specs.Runs.{taken_down, Sent, transmission, AllNarrow, clean, Hears}
 use Rattle.ends.proofs.Held.{level_at, held_length, marks_from, sum_mono}
-use Rattle.ends.specs.Sampling.{Taken, Taking, sound_rising, taken_more, decided_all, decided_first, before_zero, before_more, all_by_last, not_all_before}
+use Rattle.ends.proofs.Sampling.{Taken, Taking, sound_rising, taken_more, decided_all, decided_first, before_zero, before_more, all_by_last, not_all_before}
 use Rattle.ends.proofs.InFrame.{frame_over, frame_unended}
 use Rattle.ends.proofs.Entries.{entry_is}
 

@@ -11,7 +11,7 @@ use Rattle.line.proofs.Digits.{low_number}
 use Rattle.line.proofs.Bits.{width_least}
 use Rattle.ends.specs.Times.{samples_per_frame}
 use Rattle.ends.specs.Receiver.{Entry, Heard, heard_in_frame, entry_of, after_frame, decided, nothing, going_on, framing}
-use Rattle.ends.specs.Sampling.{decided_length}
+use Rattle.ends.proofs.Sampling.{decided_length}
 
 all_decided : (f : Format) (ls : List Level) → length ls ≡ samples_per_frame f → length (decided ls) ≡ 1 + first_stop f
 all_decided f ls e = omega (arith, e, decided_length ls)

@@ -5,3 +5,4 @@ pub mod Held
 pub mod Speaking
 pub mod Arriving
 pub mod Reading
+pub mod Sampling

@@ -7,4 +7,4 @@ pub mod Shifts
 pub mod BareSender
 pub mod Samples
 pub mod BareReceiver
-pub mod Sampling
+pub mod Soundness

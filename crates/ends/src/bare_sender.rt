@@ -11,7 +11,7 @@ pub struct BareSender {
     pub(crate) timing: Timing,
     pub(crate) shift: Option<Shift>,
     pub(crate) waiting: Option<u16>,
-    ghost heard_in_frame: { bit_of shift < frame_bits timing.format },
+    ghost in_frame: { bit_of shift < frame_bits timing.format },
     ghost on_line: { 0 < clocks_of shift },
     ghost narrow: { character_of waiting < 2 ^ width timing.format },
 }

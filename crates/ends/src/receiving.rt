@@ -8,7 +8,7 @@ ghost use Rattle.ends.specs.Receiver.{falling_on, falling_before, majority, deci
 ghost use Rattle.ends.specs.Samples.{taken};
 ghost use Rattle.ends.specs.BareReceiver.{meant, at_rest, heard_of};
 ghost use Rattle.ends.specs.Timed.{sample_clocks};
-ghost use Rattle.ends.specs.Sampling.{sound_bare};
+ghost use Rattle.ends.specs.Soundness.{sound_bare};
 
 use super::bare_receiver::BareReceiver;
 use super::doing::{Doing, Progress};

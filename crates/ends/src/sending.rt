@@ -6,7 +6,7 @@ ghost use Rattle.ends.specs.Times.{held};
 ghost use Rattle.ends.specs.Shifts.{bit_of, clocks_of, shift_levels, left_of};
 ghost use Rattle.ends.specs.Sender.{empty, ready};
 ghost use Rattle.ends.specs.BareSender.{meant, at_rest};
-ghost use Rattle.std.proofs.Common.{rules, arith};
+ghost use Rattle.std.proofs.Common.{rules};
 
 use super::bare_sender::BareSender;
 use super::sender::Sender;
@@ -110,7 +110,7 @@ impl BareSender {
 impl Sender for BareSender {
     ghost meaning = { meant };
 
-    ghost sound = { first_of (Prim.search rules, Prim.grind (arith, Self.row.coded.inj)) };
+    ghost sound = { Prim.search rules };
 
     fn format(&self) -> Format {
         self.timing.format

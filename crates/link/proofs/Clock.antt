@@ -13,7 +13,7 @@ use Rattle.ends.specs.Receiver.{ReceiverState, SoundReceiver, Entry, idle, frami
 use Rattle.link.specs.Sampling.{Holds, Edge, SampledFrame}
 use Rattle.line.proofs.Bits.{through, through_length, frame_length, frame_fits, frame_through, frame_stops, front, front_length, through_front, stop_some, agree_first_stop, agree_width, agree_through}
 use Rattle.ends.proofs.Held.{level_at, marks_from, held_length, sum_mono}
-use Rattle.ends.specs.Sampling.{before_more, Taken, Taking, taken_more, all_by_last, not_all_before, sound_rising}
+use Rattle.ends.proofs.Sampling.{before_more, Taken, Taking, taken_more, all_by_last, not_all_before, sound_rising}
 use Rattle.ends.proofs.Entries.{entry_is}
 use Rattle.link.proofs.InFrame.{ends, goes_on}
 

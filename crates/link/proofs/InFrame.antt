@@ -6,7 +6,7 @@ use Rattle.line.specs.declared.format.Format.{Format}
 use Rattle.line.specs.Frames.{first_stop}
 use Rattle.ends.specs.Times.{samples_per_frame}
 use Rattle.ends.specs.Receiver.{Heard, framing, nothing, heard_in_frame, after_frame, entry_of, going_on, decided}
-use Rattle.ends.specs.Sampling.{Taken, decided_all, decided_first}
+use Rattle.ends.proofs.Sampling.{Taken, decided_all, decided_first}
 use Rattle.ends.proofs.InFrame.{frame_over, frame_unended}
 
 -- ls are the samples after clock n

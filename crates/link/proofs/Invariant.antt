@@ -11,7 +11,7 @@ use Rattle.link.specs.Link.{LinkState}
 use Rattle.link.specs.History.{History}
 use Rattle.link.specs.Sampling.{Edge}
 use Rattle.line.proofs.Bits.{through}
-use Rattle.ends.specs.Sampling.{Taken}
+use Rattle.ends.proofs.Sampling.{Taken}
 use Rattle.link.proofs.Kept.{Kept}
 
 -- at all times

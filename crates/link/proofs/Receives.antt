@@ -14,7 +14,7 @@ use Rattle.link.specs.History.{History, noted_clock, characters, numbered}
 use Rattle.link.specs.Sampling.{Holds, Edge, SampledFrame}
 use Rattle.link.specs.Delivery.{Sampled}
 use Rattle.line.proofs.Bits.{through, width_least}
-use Rattle.ends.specs.Sampling.{before_zero, Taken, sound_rising}
+use Rattle.ends.proofs.Sampling.{before_zero, Taken, sound_rising}
 use Rattle.link.proofs.Reach.{heard_fixed}
 use Rattle.link.proofs.Kept.{kept_arrival}
 use Rattle.link.proofs.Clock.{level_held, level_stopped, clock_goes_on, clock_ends}

@@ -12,7 +12,7 @@ use Rattle.ends.specs.Sender.{SenderState, SoundSender, frame_levels, first_of, 
 use Rattle.ends.specs.Receiver.{ReceiverState, SoundReceiver, Doing, idle, framing, counting, nothing, heard_in_frame, heard, entry_of, last_sample, falling_on, decided, falling_before, taken_now}
 use Rattle.link.specs.Delivery.{Marks}
 use Rattle.line.proofs.Bits.{front, frame_front, frame_fits}
-use Rattle.ends.specs.Sampling.{before_zero, before_more, decided_length, all_by_last}
+use Rattle.ends.proofs.Sampling.{before_zero, before_more, decided_length, all_by_last}
 
 pub mark_not_space : Mark ≡ Space → ⊥
 mark_not_space e = let z : ◌≡◌ {A = ℕ} 0 1 = cc in omega arith

@@ -16,7 +16,7 @@ use Rattle.link.specs.Sampling.{SampledFrame}
 use Rattle.link.specs.Delivery.{Sampled}
 use Rattle.line.proofs.Bits.{through, agree_first_stop}
 use Rattle.ends.proofs.Held.{sum_mono}
-use Rattle.ends.specs.Sampling.{Taken}
+use Rattle.ends.proofs.Sampling.{Taken}
 use Rattle.link.proofs.Left.{first_drop, rest_drop, nothing_left}
 use Rattle.link.proofs.Kept.{Kept, kept_read}
 use Rattle.link.proofs.Clock.{lasts}

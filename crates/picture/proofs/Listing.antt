@@ -10,7 +10,7 @@ use Rattle.ends.specs.BareReceiver.{at_rest}
 use Rattle.ends.specs.Runs.{taken_down, transmission}
 use Rattle.ends.proofs.Arriving.{hears_all}
 use Rattle.ends.proofs.Reading.{unread_apart}
-use Rattle.ends.specs.Sampling.{sound_bare}
+use Rattle.ends.specs.Soundness.{sound_bare}
 use Rattle.picture.specs.Drawing.{bytes}
 use Rattle.picture.specs.Scanning.{levels, listed, after_listed, Recovers, GoesOn}
 

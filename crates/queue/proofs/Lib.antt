@@ -1,2 +1,4 @@
 -- The lemmas that several proofs share.
 pub mod Receiving
+pub mod Rings
+pub mod Sending

@@ -1,5 +1,4 @@
 -- What the contracts cite.
 pub mod Rings
 pub mod Queues
-pub mod RingsLemmas
-pub mod Sending
+pub mod Soundness

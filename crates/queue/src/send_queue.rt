@@ -2,9 +2,7 @@
 ghost use Rattle.std.specs.Prelude.{◌≡◌, ◌<◌, [], length};
 ghost use Rattle.queue.specs.Rings.{items};
 ghost use Rattle.queue.specs.Queues.{queued_to};
-ghost use Rattle.std.proofs.Common.{arith};
-ghost use Rattle.queue.specs.RingsLemmas.{count_is};
-ghost use Rattle.queue.specs.Sending.{sound_queued};
+ghost use Rattle.queue.specs.Soundness.{few_items, sound_queued};
 
 use super::ring::{PLACES, Ring};
 use ends::Sender;
@@ -46,7 +44,7 @@ impl<S: Sender> SendQueue<S> {
 impl<S: Sender> Sender for SendQueue<S> {
     ghost meaning = { λ q. queued_to (S.Sender.meaning q.below) (items q.held) };
 
-    ghost sound = { λ q. sound_queued (S.Sender.meaning q.below) (items q.held) (omega (arith, count_is q.held, q.held.few)) (S.Sender.sound q.below) };
+    ghost sound = { λ q. sound_queued (S.Sender.meaning q.below) (items q.held) (few_items q.held) (S.Sender.sound q.below) };
 
     fn format(&self) -> Format {
         self.below.format()

@@ -4,7 +4,7 @@ use Rattle.ends.specs.declared.doing.Doing.{Doing}
 use Rattle.ends.specs.declared.doing.Doing.TheVariants.{Framing, Counting}
 use Rattle.ends.specs.Samples.{taken_by, due_by, spaces_by}
 use Rattle.ends.specs.Timed.{sample_clocks}
-use Rattle.ends.specs.Sampling.{clock_early}
+use Rattle.ends.proofs.Sampling.{clock_early}
 use Rattle.ends.proofs.receiving.BareReceiverReceiver.clock.Goals as goal
 
 fits_below : (n : ℕ) → n < 2 ^ 32 → Fits w32 n

@@ -1,7 +1,7 @@
 use Rattle.std.proofs.Common.{sym, arith}
 use Rattle.std.proofs.lemmas.List.{get_or_past}
 use Rattle.ends.specs.Timed.{sample_clocks}
-use Rattle.ends.specs.Sampling.{clock_at, clocks_length}
+use Rattle.ends.specs.Soundness.{clock_at, clocks_length}
 use Rattle.ends.proofs.receiving.BareReceiverReceiver.sample_clock.Goals as goal
 
 pub returns-then-sample-self : goal.returns-then-sample-self

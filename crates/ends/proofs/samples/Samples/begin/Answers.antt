@@ -4,7 +4,7 @@ use Rattle.line.specs.declared.level.Level.TheVariants.{Space}
 use Rattle.ends.specs.Receiver.{heard_in_frame, nothing, framing, falling_on, taken_now}
 use Rattle.ends.specs.Timed.{sample_clocks}
 use Rattle.ends.specs.Samples.{taken}
-use Rattle.ends.specs.Sampling.{before_zero, before_more, few_at_first, in_step}
+use Rattle.ends.proofs.Sampling.{before_zero, before_more, few_at_first, in_step}
 use Rattle.ends.proofs.InFrame.{starts}
 use Rattle.ends.proofs.samples.Samples.begin.Goals as goal
 

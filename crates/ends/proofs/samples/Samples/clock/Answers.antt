@@ -8,7 +8,7 @@ use Rattle.ends.specs.Times.{samples_per_frame}
 use Rattle.ends.specs.Receiver.{Heard, nothing, going_on, decided, heard_in_frame, falling_before, taken_now}
 use Rattle.ends.specs.Timed.{sample_clocks}
 use Rattle.ends.specs.Samples.{taken}
-use Rattle.ends.specs.Sampling.{taken_length, in_step, not_past, decided_more}
+use Rattle.ends.proofs.Sampling.{taken_length, in_step, not_past, decided_more}
 use Rattle.ends.proofs.InFrame.{frame_unended, few_decided, over_by_digits}
 use Rattle.ends.proofs.samples.Samples.clock.Goals as goal
 

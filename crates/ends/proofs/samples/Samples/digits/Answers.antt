@@ -7,7 +7,7 @@ use Rattle.line.specs.Levels.{number, byte_of}
 use Rattle.ends.specs.declared.samples.Samples.{Samples}
 use Rattle.ends.specs.Receiver.{majority, decided}
 use Rattle.ends.specs.Samples.{taken}
-use Rattle.ends.specs.Sampling.{decided_more, taken_length}
+use Rattle.ends.proofs.Sampling.{decided_more, taken_length}
 use Rattle.ends.proofs.samples.Samples.digits.Goals as goal
 
 -- a turn of the loop: the bit below comes in as the lowest digit

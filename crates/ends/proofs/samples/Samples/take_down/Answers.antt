@@ -6,7 +6,8 @@ use Rattle.ends.specs.declared.timing.Timing.{Timing}
 use Rattle.ends.specs.Receiver.{falling_on, falling_before, taken_now}
 use Rattle.ends.specs.Timed.{sample_clocks}
 use Rattle.ends.specs.Samples.{taken}
-use Rattle.ends.specs.Sampling.{clocks_length, clocks_rising, clock_at, none_from, on_after_before, one_on, over_clock}
+use Rattle.ends.proofs.Sampling.{clocks_rising, none_from, on_after_before, one_on, over_clock}
+use Rattle.ends.specs.Soundness.{clocks_length, clock_at}
 use Rattle.ends.proofs.samples.Samples.take_down.Goals as goal
 
 -- no more samples fall on the clock, so all that do have been taken

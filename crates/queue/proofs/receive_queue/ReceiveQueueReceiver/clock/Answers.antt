@@ -3,7 +3,7 @@ use Rattle.std.proofs.Common.{List, ap, ◌∙◌, arith}
 use Rattle.ends.specs.Receiver.{ReceiverState, Entry, after_clock}
 use Rattle.queue.specs.Rings.{items}
 use Rattle.queue.specs.Queues.{queued_from}
-use Rattle.queue.specs.RingsLemmas.{count_is}
+use Rattle.queue.specs.Soundness.{count_is}
 use Rattle.queue.proofs.Receiving.{clocked}
 use Rattle.queue.proofs.receive_queue.ReceiveQueueReceiver.clock.Goals as goal
 

@@ -1,6 +1,6 @@
 -- The first item stands at the first place.
 use Rattle.std.proofs.Common.{arith}
-use Rattle.queue.specs.RingsLemmas.{oldest_item}
+use Rattle.queue.proofs.Rings.{oldest_item}
 use Rattle.queue.proofs.ring.Ring.oldest.Goals as goal
 
 pub returns : goal.returns

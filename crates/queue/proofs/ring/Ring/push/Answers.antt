@@ -1,6 +1,6 @@
 -- The place written is that after the last item, and none of theirs.
 use Rattle.std.proofs.Common.{◌+◌, refl}
-use Rattle.queue.specs.RingsLemmas.{after_push}
+use Rattle.queue.proofs.Rings.{after_push}
 use Rattle.queue.proofs.ring.Ring.push.Goals as goal
 
 pub returns : goal.returns

@@ -1,6 +1,6 @@
 -- From the next place on stand the other items.
 use Rattle.std.proofs.Common.{◌-◌, refl}
-use Rattle.queue.specs.RingsLemmas.{after_remove}
+use Rattle.queue.proofs.Rings.{after_remove}
 use Rattle.queue.proofs.ring.Ring.remove_oldest.Goals as goal
 
 pub returns : goal.returns

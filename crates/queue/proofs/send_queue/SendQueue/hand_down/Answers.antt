@@ -3,8 +3,8 @@ use Rattle.std.proofs.Common.{ℕ, ◌^◌, List, ◌∷◌, length, sym, ap, �
 use Rattle.line.specs.declared.format.Format.{Format}
 use Rattle.line.specs.Frames.{width}
 use Rattle.queue.specs.Rings.{items}
-use Rattle.queue.specs.RingsLemmas.{count_is}
-use Rattle.queue.specs.Sending.{handed_down}
+use Rattle.queue.specs.Soundness.{count_is}
+use Rattle.queue.proofs.Sending.{handed_down}
 use Rattle.queue.proofs.send_queue.SendQueue.hand_down.Goals as goal
 
 pub loop-character-preserved : goal.loop-character-preserved

@@ -3,8 +3,8 @@ use Rattle.std.proofs.Common.{ℕ, List, ap, ◌∙◌, arith}
 use Rattle.ends.specs.Sender.{SenderState, sent, after_send}
 use Rattle.queue.specs.Rings.{items}
 use Rattle.queue.specs.Queues.{queued_to}
-use Rattle.queue.specs.RingsLemmas.{count_is}
-use Rattle.queue.specs.Sending.{clocked}
+use Rattle.queue.specs.Soundness.{count_is}
+use Rattle.queue.proofs.Sending.{clocked}
 use Rattle.queue.proofs.send_queue.SendQueueSender.clock.Goals as goal
 
 pub returns : goal.returns

@@ -5,8 +5,8 @@ use Rattle.line.specs.Frames.{width}
 use Rattle.ends.specs.Sender.{SenderState}
 use Rattle.queue.specs.Rings.{items}
 use Rattle.queue.specs.Queues.{queued_to}
-use Rattle.queue.specs.RingsLemmas.{count_is}
-use Rattle.queue.specs.Sending.{refused, taken}
+use Rattle.queue.specs.Soundness.{count_is}
+use Rattle.queue.proofs.Sending.{refused, taken}
 use Rattle.queue.proofs.send_queue.SendQueueSender.load.Goals as goal
 
 narrow : (c n : ℕ) (f below : Format) → n ≡ 2 ^ width f → f ≡ below → c < n → c < 2 ^ width below

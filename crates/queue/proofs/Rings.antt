@@ -1,14 +1,9 @@
 -- The items of a ring when one joins and when the oldest leaves.
-use Rattle.std.specs.Prelude.{◌≡◌, ℕ, ◌+◌, ◌-◌, ◌%◌, ◌<◌, ◌≤◌, ◌≢◌, List, [], ◌∷◌, ◌++◌, length, get_or, take, drop, set, slice_index_or, slice_set}
+use Rattle.std.specs.Prelude.{◌≡◌, ℕ, ◌+◌, ◌-◌, ◌%◌, ◌<◌, ◌≤◌, ◌≢◌, List, [], ◌∷◌, ◌++◌, length, get_or, drop, set, slice_index_or, slice_set}
 use Rattle.std.proofs.Common.{sym, ap, ◌∙◌, ⊎_elim, arith}
-use Rattle.std.proofs.lemmas.List.{length-append, length-drop, length-set, length-take-le, get_or-take, get_or-drop, get_or_append_left, get_or-append_right, get_or-set_same, get_or-set_other, take_more, drop_more, same_lists}
+use Rattle.std.proofs.lemmas.List.{length-drop, length-set, get_or-take, get_or-drop, get_or_append_left, get_or-append_right, get_or-set_same, get_or-set_other, take_more, drop_more, same_lists}
 use Rattle.std.proofs.lemmas.Bool.{cases_lt}
-use Rattle.queue.specs.declared.ring.Ring.{Ring}
-use Rattle.queue.specs.Rings.{items}
-
--- n items from place f on
-abbrev from_place : {A : Type 0} → List A → ℕ → ℕ → List A
-from_place xs f n = take n (drop f (xs ++ xs))
+use Rattle.queue.specs.Soundness.{from_place, rest_length, items_length}
 
 twice : {A : Type 0} (xs : List A) (j : ℕ) (d : A) → length xs ≡ 16 → j < 32 → slice_index_or (xs ++ xs) j d ≡ slice_index_or xs (j % 16) d
 twice xs j d size h = ⊎_elim
@@ -23,17 +18,8 @@ twice xs j d size h = ⊎_elim
     high j l h = omega arith
 
 module _ {A : Type 0} (xs : List A) (f n : ℕ) (size : length xs ≡ 16) (inside : f < 16) where
-  rest_length : length (drop f (xs ++ xs)) ≡ 32 - f
-  rest_length = omega (arith, length-drop f (xs ++ xs), length-append xs xs)
-
-  items_length : n ≤ 16 → length (from_place xs f n) ≡ n
-  items_length few = length-take-le n (drop f (xs ++ xs)) (omega (arith, rest_length))
-
   item : (i : ℕ) (d : A) → i < 16 → slice_index_or (drop f (xs ++ xs)) i d ≡ slice_index_or xs ((f + i) % 16) d
   item i d h = get_or-drop f (xs ++ xs) i d ∙ twice xs (f + i) d size (omega arith)
-
-pub count_is : {A : Type 0} (r : Ring A) → length (items r) ≡ r.count
-count_is r = items_length r.places r.first r.count r.sixteen r.inside r.few
 
 pub oldest_item : {A : Type 0} (xs : List A) (f n : ℕ) (size : length xs ≡ 16) (inside : f < 16) (d : A) → 0 < n → n ≤ 16
     → from_place xs f n ≡ slice_index_or xs f d ∷ drop 1 (from_place xs f n)

@@ -1,20 +1,19 @@
 -- The samples of a frame: which fall before a clock, and what is decided of them.
 use Rattle.std.specs.Prelude.{◌≡◌, ℕ, zero, suc, ◌+◌, ◌-◌, ◌*◌, ◌<◌, ◌≤◌, ◌⊎◌, List, [], ◌∷◌, ◌++◌, length, get_or, drop, replicate, slice_index, slice_index_or, refl}
 use Rattle.std.proofs.Common.{sym, ap, ap₂, subst, ◌∙◌, inl, inr, ⊎_elim, not-suc-le-zero, le_of_suc-le-suc, add-zero, arith, length-append, length-drop}
-use Rattle.std.proofs.lemmas.List.{get_or_append_left, get_or-append_right, get_or_past, get_or-take, get_or-drop, length-take-le, drop_more, length-replicate, get_or-replicate}
+use Rattle.std.proofs.lemmas.List.{get_or_append_left, get_or-append_right, get_or-take, get_or-drop, length-take-le, drop_more, length-replicate, get_or-replicate}
 use Rattle.std.proofs.lemmas.Bool.{cases_lt}
 use Rattle.std.proofs.lemmas.Bool.Decides.{nat_tests}
 use Rattle.line.specs.declared.level.Level.{Level}
 use Rattle.line.specs.declared.level.Level.TheVariants.{Space, Mark}
 use Rattle.line.specs.Frames.{first_stop}
-use Rattle.line.proofs.Bits.{width_most, parity_most}
 use Rattle.ends.specs.declared.timing.Timing.{Timing}
 use Rattle.ends.specs.declared.samples.Samples.{Samples}
 use Rattle.ends.specs.Times.{samples_per_frame}
-use Rattle.ends.specs.Receiver.{ReceiverState, SoundReceiver, Entry, Doing, with, first_sample, third_sample, last_sample, falling_on, falling_before, majority, decided, taken_now}
-use Rattle.ends.specs.BareReceiver.{at_rest}
+use Rattle.ends.specs.Receiver.{ReceiverState, SoundReceiver, first_sample, third_sample, last_sample, falling_on, falling_before, majority, decided, taken_now}
 use Rattle.ends.specs.Timed.{sample_clocks}
 use Rattle.ends.specs.Samples.{taken}
+use Rattle.ends.specs.Soundness.{clocks_length, clock_at, clocks_step}
 
 pub before_zero : (ss : List ℕ) → falling_before 0 ss ≡ 0
 before_zero [] = refl
@@ -162,22 +161,6 @@ taken_more r ok n ls bits l t e reads k j three h =
     ∙ reads k (taking r ok n k j three (omega arith) (omega arith)))
     (cases_lt (3 * k + j) (length ls))
 
--- the samples of a timing are those of its table that the format uses
-pub samples_used : (t : Timing) → t.sample_count ≤ 36
-samples_used t = omega (arith, t.counted, width_most t.format, parity_most t.format.parity)
-
-pub clocks_length : (t : Timing) → length (sample_clocks t) ≡ t.sample_count
-clocks_length t = length-take-le t.sample_count t.samples (omega (arith, samples_used t, t.all_samples))
-
-pub clock_at : (t : Timing) (i : ℕ) → i < t.sample_count → slice_index (sample_clocks t) i ≡ slice_index t.samples i
-clock_at t i h = get_or-take t.sample_count t.samples i 0 h
-
-pub clocks_step : (t : Timing) (i : ℕ) → i + 1 < length (sample_clocks t) → slice_index (sample_clocks t) i ≤ slice_index (sample_clocks t) (i + 1)
-clocks_step t i h =
-    let n = clocks_length t in
-    let m = samples_used t in
-    omega (arith, clock_at t i (omega arith), clock_at t (i + 1) (omega arith), t.rising i (omega arith))
-
 pub clocks_rising : (t : Timing) → Rising (sample_clocks t)
 clocks_rising t = rising_all (sample_clocks t) (clocks_step t)
 
@@ -275,24 +258,3 @@ few_at_first t = ⊎_elim
     absurd (omega (arith, under_clock 1 (sample_clocks t) (clocks_rising t) 3 more, clock_at t 3 within, t.apart 0 (omega arith))))
     (λ (few : falling_before 1 (sample_clocks t) ≤ 3). few)
     (cases_lt 3 (falling_before 1 (sample_clocks t)))
-
-pub clocks_early : (t : Timing) (i : ℕ) → slice_index (sample_clocks t) i < 1048576
-clocks_early t i = ⊎_elim
-    (λ (l : i < t.sample_count). omega (arith, clock_at t i l, t.early i))
-    (λ (g : t.sample_count ≤ i). omega (arith, get_or_past (sample_clocks t) i 0 (omega (arith, g, clocks_length t))))
-    (cases_lt i t.sample_count)
-
-pub clocks_apart : (t : Timing) (k : ℕ) → k < first_stop t.format → slice_index (sample_clocks t) (3 * k + 2) < slice_index (sample_clocks t) (3 * k + 3)
-clocks_apart t k h =
-    omega (arith, clock_at t (3 * k + 2) (omega (arith, h, t.counted)), clock_at t (3 * k + 3) (omega (arith, h, t.counted)), t.apart k (omega (arith, h, width_most t.format, parity_most t.format.parity)))
-
--- a bare receiver's fixed parts are in range, whatever it holds
-pub sound_bare : (t : Timing) (us : List Entry) (p : Level) (d : Doing) → SoundReceiver (with (at_rest t) us p d)
-sound_bare t us p d = record {
-  all_samples = clocks_length t ∙ t.counted;
-  rising = clocks_step t;
-  apart = clocks_apart t;
-  early = clocks_early t;
-  breaks = t.breaks;
-  room = omega arith;
-}
