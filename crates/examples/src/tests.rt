@@ -306,7 +306,8 @@ fn the_port_counts_in_sixteenths(rt: HostRuntime) -> Result<(), Fail> {
     assert_eq!(rt; receiver.sample_clock(29), 153);
     assert_eq!(rt; fast.break_length, 160);
     let slow = Port::timing(EIGHT_N_ONE, port::Settings::new(4096)?)?;
-    assert_eq!(rt; slow.lengths[3], 65536);
+    let length = slow.lengths[3];
+    assert_eq!(rt; length, 65536);
     let receiver = BareReceiver::new(slow);
     assert_eq!(rt; receiver.sample_clock(0), 28672);
     assert_eq!(rt; receiver.sample_clock(2), 36864);
