@@ -1,5 +1,5 @@
 -- The table of built-in settings.
-use Rattle.std.specs.Prelude.{◌≡◌, ℕ, ◌<◌, ◌≤◌, cond, ◌&&◌, List, [], ◌∷◌, get_or, Some, None, Option, ◌==◌, slice_index_or}
+use Rattle.std.specs.Prelude.{◌≡◌, ℕ, ◌<◌, ◌≤◌, cond, ◌&&◌, List, [], ◌∷◌, Some, None, Option, ◌==◌, slice_index_or}
 use Rattle.usart.specs.declared.settings.Settings.{Settings}
 use Rattle.usart.specs.declared.built.Row.{Row}
 
@@ -56,8 +56,8 @@ lookup (r ∷ rs) c b = cond (r.clock == c && r.baud == b) (Some r) (lookup rs c
 
 -- no two rows share clock and baud rate
 abbrev pub Distinct : Type 0
-Distinct = (i j : ℕ) → i < 22 → j < 22 → Has (slice_index_or rows i blank) (get_or rows j blank).clock (get_or rows j blank).baud → i ≡ j
+Distinct = (i j : ℕ) → i < 22 → j < 22 → Has (slice_index_or rows i blank) (slice_index_or rows j blank).clock (slice_index_or rows j blank).baud → i ≡ j
 
 -- the settings of every row are in range
 abbrev pub InRange : Type 0
-InRange = (k : ℕ) → k < 22 → (3 ≤ (get_or rows k blank).divider) × ((get_or rows k blank).divider ≤ 65535) × ((get_or rows k blank).modulator ≤ 255)
+InRange = (k : ℕ) → k < 22 → (3 ≤ (slice_index_or rows k blank).divider) × ((slice_index_or rows k blank).divider ≤ 65535) × ((slice_index_or rows k blank).modulator ≤ 255)
