@@ -115,7 +115,10 @@ fn help(rt: &HostRuntime, word: &str) -> anyhow::Result<()> {
 
 fn dispatch(rt: &HostRuntime, word: &str, rest: &[String]) -> anyhow::Result<()> {
     match word {
-        "--help" => Ok(rt.println(HELP)?),
+        "--help" => {
+            check_plain(rest, 0)?;
+            Ok(rt.println(HELP)?)
+        }
         "sheet" => settings_sheet::command(rt, rest),
         "fit" => fitting::command(rt, rest),
         "draw" => drawing::command(rt, rest),
@@ -134,11 +137,11 @@ fn dispatch(rt: &HostRuntime, word: &str, rest: &[String]) -> anyhow::Result<()>
     }
 }
 
-// The record that a demonstration takes.
+// The record that a demonstration takes: any word, or a sample.
 fn record<'a>(words: &'a [String]) -> anyhow::Result<&'a str> {
-    check_plain(words, 1)?;
-    match words.first() {
-        Some(word) => Ok(word.as_str()),
-        None => Ok(SAMPLE),
+    match words {
+        [] => Ok(SAMPLE),
+        [word] => Ok(word.as_str()),
+        _ => bail!("too many words; put a record in quotes"),
     }
 }

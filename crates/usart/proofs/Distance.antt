@@ -4,7 +4,7 @@ use Rattle.std.proofs.lemmas.Bool.{cases_lt, le-leb, lt-leb, cond-true, cond-fal
 use Rattle.std.proofs.lemmas.Nat.{pow_pos, pow-add}
 use Rattle.usart.specs.Usart.{power_within, distance, Spaced, Lasting}
 
--- the power that `power-within` finds is the largest of all
+-- the power that `power_within` finds is the largest of all
 found : (top n : ℕ) → 1 ≤ n → n < 2 ^ suc top → (k : ℕ) × (2 ^ k ≤ n) × (n < 2 ^ suc k) × (power_within top n ≡ 2 ^ k)
 unfolding power_within
 found zero n p l = (0, p, l, refl)
