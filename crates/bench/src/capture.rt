@@ -130,13 +130,13 @@ fn scan_capture<I: Read>(
 
 fn scan_file(rt: &HostRuntime, timing: &Timing, style: Style, name: &str) -> anyhow::Result<()> {
     let Ok(mut first) = File::open(rt, name) else {
-        bail!("the file '{name}' cannot be opened");
+        bail!("cannot open the file '{name}'");
     };
     if check_capture(rt, &mut first)? == 0 {
-        bail!("the capture '{name}' is empty");
+        bail!("empty capture '{name}'");
     }
     let Ok(mut file) = File::open(rt, name) else {
-        bail!("the file '{name}' cannot be opened again");
+        bail!("cannot reopen the file '{name}'");
     };
     let _ = scan_capture(rt, timing, style, &mut file)?;
     Ok(())
