@@ -4,8 +4,8 @@ use super::options::{check_words, format, number, other};
 use anyhow::bail;
 use ends::{BareReceiver, BareSender};
 use line::Refusal;
-use link::{Verdict, fit};
-use sheet::{Off, Rates, highest, lowest};
+use link::{Rates, Verdict, fit};
+use sheet::{Off, highest, lowest};
 use std::io;
 
 const OPTIONS: [&str; 1] = ["--format"];
@@ -50,7 +50,7 @@ pub fn command(rt: &HostRuntime, words: &[String]) -> anyhow::Result<()> {
     let rates = Rates { send, receive };
     let sender = BareSender::new(from);
     let receiver = BareReceiver::new(to);
-    match fit(&sender, &receiver, send, receive) {
+    match fit(&sender, &receiver, rates) {
         Ok(Verdict::Passes) => {
             println!(rt; "They fit: every character arrives as it was sent.")?;
             print_range(

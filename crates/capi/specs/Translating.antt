@@ -7,7 +7,7 @@ use Rattle.line.specs.Levels.{byte_of, level_of}
 use Rattle.link.specs.declared.act.Act.{Act}
 use Rattle.link.specs.declared.act.Act.TheVariants.{Load, Send, Receive, Noise, Read}
 use Rattle.link.specs.declared.act.Answer.{Answer}
-use Rattle.link.specs.declared.act.Answer.TheVariants.{Done, Line, Entry, Refused}
+use Rattle.link.specs.declared.act.Answer.TheVariants.{Done, Line, Entry}
 use Rattle.capi.specs.declared.numbers.ActNumbers.{ActNumbers}
 use Rattle.capi.specs.declared.numbers.AnswerNumbers.{AnswerNumbers}
 use Rattle.capi.specs.Settings.{then}
@@ -28,8 +28,8 @@ act_of a =
     (cond (a.kind == 2) Receive
     (cond (a.kind == 3) (Noise (level_of a.value)) Read)))
 
-abbrev pub told_answer : Answer → AnswerNumbers
-told_answer Done = record { kind = 0; flags = 0; value = 0 }
-told_answer (Line l) = record { kind = 1; flags = 0; value = byte_of l }
-told_answer (Entry c flags) = record { kind = 2; flags = flags; value = c }
-told_answer (Refused e) = record { kind = 3; flags = 0; value = number_of e }
+abbrev pub told_answer : Result Answer Refusal → AnswerNumbers
+told_answer (Ok Done) = record { kind = 0; flags = 0; value = 0 }
+told_answer (Ok (Line l)) = record { kind = 1; flags = 0; value = byte_of l }
+told_answer (Ok (Entry c flags)) = record { kind = 2; flags = flags; value = c }
+told_answer (Err e) = record { kind = 3; flags = 0; value = number_of e }

@@ -6,7 +6,7 @@ ghost use Rattle.capi.specs.Fitting.{fit_result, told_verdict, Exactly, Deliveri
 use super::numbers::{EndNumbers, VerdictNumbers};
 use ends::{BareReceiver, BareSender};
 use line::Refusal;
-use link::{Verdict, fit};
+use link::{Rates, Verdict, fit};
 
 // Whether a sender and a receiver fit, with so many send clocks to so many receive clocks.
 #[unsafe(no_mangle)]
@@ -43,7 +43,11 @@ fn fit_at(
 {
     let sends = BareSender::new(sender.timing()?);
     let receives = BareReceiver::new(receiver.timing()?);
-    fit(&sends, &receives, send_rate, receive_rate)
+    let rates = Rates {
+        send: send_rate,
+        receive: receive_rate,
+    };
+    fit(&sends, &receives, rates)
 }
 
 fn numbers_of(verdict: Verdict) -> VerdictNumbers

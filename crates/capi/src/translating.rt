@@ -65,26 +65,26 @@ pub(crate) fn check_all(acts: &[ActNumbers]) -> Result<(), Refusal>
     Ok(())
 }
 
-pub(crate) fn numbers_of(answer: Answer) -> AnswerNumbers
+pub(crate) fn numbers_of(answer: Result<Answer, Refusal>) -> AnswerNumbers
     ensures { result ≡ told_answer answer }
 {
     match answer {
-        Answer::Done => AnswerNumbers {
+        Ok(Answer::Done) => AnswerNumbers {
             kind: 0,
             flags: 0,
             value: 0,
         },
-        Answer::Line(level) => AnswerNumbers {
+        Ok(Answer::Line(level)) => AnswerNumbers {
             kind: 1,
             flags: 0,
             value: u16::from(level.byte()),
         },
-        Answer::Entry(character, flags) => AnswerNumbers {
+        Ok(Answer::Entry(character, flags)) => AnswerNumbers {
             kind: 2,
             flags,
             value: character,
         },
-        Answer::Refused(refusal) => AnswerNumbers {
+        Err(refusal) => AnswerNumbers {
             kind: 3,
             flags: 0,
             value: u16::from(refusal.number()),

@@ -4,7 +4,7 @@ use super::shape::Shape;
 use super::tally::Tally;
 use super::times::End;
 use ends::{BareReceiver, BareSender};
-use link::{Verdict, fit};
+use link::{Rates, Verdict, fit};
 use std::io;
 
 // Whether a bit is sampled before it is held, or left before it is sampled.
@@ -119,8 +119,10 @@ fn by_library(sender: &End, receiver: &End, rates: (u16, u16)) -> Finding {
     let verdict = fit(
         &BareSender::new(from),
         &BareReceiver::new(to),
-        u32::from(rates.0),
-        u32::from(rates.1),
+        Rates {
+            send: u32::from(rates.0),
+            receive: u32::from(rates.1),
+        },
     );
     match verdict {
         Ok(Verdict::Passes) => Finding::Passes,

@@ -9,6 +9,7 @@ use super::shape::Shape;
 use super::tally::Tally;
 use super::times::End;
 use ends::{BareReceiver, BareSender, Receiver, Sender, Timing};
+use line::Refusal;
 use link::{Act, Answer, Link};
 use queue::{ReceiveQueue, SendQueue};
 use std::alloc::{AllocError, Global};
@@ -121,12 +122,12 @@ fn by_times(heap: Global, pair: &Pair, acts: &[Act]) -> Result<Vec<Said>, AllocE
     Ok(answers)
 }
 
-fn told(answer: Answer) -> Said {
+fn told(answer: Result<Answer, Refusal>) -> Said {
     match answer {
-        Answer::Done => Said::Done,
-        Answer::Line(level) => Said::Line(level.byte()),
-        Answer::Entry(character, flags) => Said::Entry(character, flags),
-        Answer::Refused(refusal) => Said::Refused(refusal.number()),
+        Ok(Answer::Done) => Said::Done,
+        Ok(Answer::Line(level)) => Said::Line(level.byte()),
+        Ok(Answer::Entry(character, flags)) => Said::Entry(character, flags),
+        Err(refusal) => Said::Refused(refusal.number()),
     }
 }
 
@@ -139,7 +140,7 @@ fn answered<S: Sender + Drop, R: Receiver + Drop>(
 ) -> Result<Vec<Said>, AllocError> {
     let mut link = Link::join(sender, receiver);
     let half = acts.len() / 2;
-    let mut answers = vec![in heap; Answer::Done; half]?;
+    let mut answers = vec![in heap; Ok(Answer::Done); half]?;
     let _ = link.run(&acts[0..half], answers.as_mut_slice());
     let mut all = Vec::new(heap);
     for answer in answers.iter() {

@@ -1,7 +1,7 @@
 // Examples of links and of rates that fit, with values worked out by hand.
 use ends::{BareReceiver, BareSender, Kind, Receiver, Sender, Timing};
 use line::{Format, Level, Refusal};
-use link::{Act, Answer, Link, Verdict, fit};
+use link::{Act, Answer, Link, Rates, Verdict, fit};
 use port::Port;
 use queue::{ReceiveQueue, SendQueue};
 use std::test::Fail;
@@ -54,19 +54,30 @@ fn formats_that_differ_refuse_every_load(rt: HostRuntime) -> Result<(), Fail> {
     Ok(())
 }
 
+fn rates(send: u32, receive: u32) -> Rates {
+    Rates { send, receive }
+}
+
 #[test]
 fn rates_out_of_range_are_refused_first(rt: HostRuntime) -> Result<(), Fail> {
     let plain = usart_port(8, 0, 0, 1)?;
     let sender = BareSender::new(plain);
     let other = BareReceiver::new(usart_port(7, 0, 0, 1)?);
-    assert_eq!(rt; fit(&sender, &other, 0, 1), Err(Refusal::OutOfRange));
-    assert_eq!(rt; fit(&sender, &other, 1, 16777217), Err(Refusal::OutOfRange));
+    assert_eq!(rt; fit(&sender, &other, rates(0, 1)), Err(Refusal::OutOfRange));
     assert_eq!(rt;
-        fit(&sender, &other, 16777216, 16777216),
+        fit(&sender, &other, rates(1, 16777217)),
+        Err(Refusal::OutOfRange)
+    );
+    assert_eq!(rt;
+        fit(&sender, &other, rates(16777216, 16777216)),
         Err(Refusal::FormatsDiffer)
     );
     assert_eq!(rt;
-        fit(&sender, &BareReceiver::new(plain), 16777216, 16777216),
+        fit(
+            &sender,
+            &BareReceiver::new(plain),
+            rates(16777216, 16777216)
+        ),
         Ok(Verdict::Passes)
     );
     Ok(())
@@ -77,22 +88,25 @@ fn rates_fit_or_are_early_or_late(rt: HostRuntime) -> Result<(), Fail> {
     let plain = usart_port(8, 0, 0, 1)?;
     let sender = BareSender::new(plain);
     let receiver = BareReceiver::new(plain);
-    assert_eq!(rt; fit(&sender, &receiver, 54, 53), Ok(Verdict::Passes));
-    assert_eq!(rt; fit(&sender, &receiver, 53, 52), Ok(Verdict::Late(7)));
-    assert_eq!(rt; fit(&sender, &receiver, 61, 63), Ok(Verdict::Passes));
-    assert_eq!(rt; fit(&sender, &receiver, 60, 63), Ok(Verdict::Early(6)));
+    assert_eq!(rt; fit(&sender, &receiver, rates(54, 53)), Ok(Verdict::Passes));
     assert_eq!(rt;
-        fit(&sender, &BareReceiver::new(laptop_port()?), 32768, 1843200),
+        fit(&sender, &receiver, rates(53, 52)),
+        Ok(Verdict::Late(7))
+    );
+    assert_eq!(rt; fit(&sender, &receiver, rates(61, 63)), Ok(Verdict::Passes));
+    assert_eq!(rt;
+        fit(&sender, &receiver, rates(60, 63)),
+        Ok(Verdict::Early(6))
+    );
+    assert_eq!(rt;
+        fit(
+            &sender,
+            &BareReceiver::new(laptop_port()?),
+            rates(32768, 1843200)
+        ),
         Ok(Verdict::Passes)
     );
     Ok(())
-}
-
-fn is_refused(answer: Answer, with: Refusal) -> bool {
-    match answer {
-        Answer::Refused(refusal) => refusal == with,
-        _ => false,
-    }
 }
 
 #[test]
@@ -100,14 +114,14 @@ fn a_list_of_answers_one_too_short_is_left_alone(rt: HostRuntime) -> Result<(), 
     let plain = usart_port(8, 0, 0, 1)?;
     let mut link = Link::join(BareSender::new(plain), BareReceiver::new(plain));
     let acts = [Act::Load(0x41), Act::Load(0x42), Act::Read];
-    let mut answers = [Answer::Entry(7, 7); 3];
+    let mut answers = [Ok(Answer::Entry(7, 7)); 3];
     assert_eq!(rt; link.run(&acts, &mut answers[0..2]), Err(Refusal::TooShort));
-    assert!(rt; matches!(answers[0], Answer::Entry(7, 7)));
+    assert_eq!(rt; answers[0], Ok(Answer::Entry(7, 7)));
     // and the link too: its one place is still free
     assert_eq!(rt; link.run(&acts, &mut answers), Ok(3));
-    assert!(rt; matches!(answers[0], Answer::Done));
-    assert!(rt; is_refused(answers[1], Refusal::Full));
-    assert!(rt; is_refused(answers[2], Refusal::NothingUnread));
+    assert_eq!(rt; answers[0], Ok(Answer::Done));
+    assert_eq!(rt; answers[1], Err(Refusal::Full));
+    assert_eq!(rt; answers[2], Err(Refusal::NothingUnread));
     Ok(())
 }
 

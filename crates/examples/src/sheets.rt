@@ -1,9 +1,10 @@
 // Examples of what the settings sheet is made of, with values worked out apart from the library.
 use ends::{BareReceiver, BareSender, Kind, Timing};
 use line::{Format, Refusal};
+use link::Rates;
 use picture::{Scanner, draw};
 use port::Port;
-use sheet::{Off, Rates, highest, lowest, nearest_divider};
+use sheet::{Off, highest, lowest, nearest_divider};
 use std::test::Fail;
 use usart::Usart;
 use words::format_named;

@@ -10,13 +10,16 @@ use Rattle.link.specs.Link.{LinkState, loading, after_act, after}
 use Rattle.link.specs.History.{read_answers}
 use Rattle.link.specs.Acts.{answer, all_answers, load_told, read_told, told}
 
+abbrev pub Outcome : Type 0
+Outcome = Result Answer Refusal
+
 after_push : (m : LinkState) (xs : List Act) (a : Act) → after m (xs ++ a ∷ []) ≡ after_act (after m xs) a
 after_push m [] a = refl
 after_push m (x ∷ xs) a = after_push (after_act m x) xs a
 
 answers_push : (m : LinkState) (xs : List Act) (a : Act) → all_answers m (xs ++ a ∷ []) ≡ all_answers m xs ++ answer (after m xs) a ∷ []
 answers_push m [] a = refl
-answers_push m (x ∷ xs) a = ap {B = List Answer} (λ t. answer m x ∷ t) (answers_push (after_act m x) xs a)
+answers_push m (x ∷ xs) a = ap {B = List Outcome} (λ t. answer m x ∷ t) (answers_push (after_act m x) xs a)
 
 answers_length : (m : LinkState) (xs : List Act) → length (all_answers m xs) ≡ length xs
 answers_length m [] = refl
@@ -27,27 +30,27 @@ module _ (m : LinkState) (acts : List Act) (i : ℕ) where
   state_more u v d within inv e =
       e ∙ ap (λ x. after_act x (get_or acts i d)) inv ∙ sym (ap (after m) (take_more acts i d within) ∙ after_push m (take i acts) (get_or acts i d))
 
-  pub answers_more : (u : LinkState) (d : Act) (old was : List Answer) (r : Answer) → i < length acts → i < length old → u ≡ after m (take i acts)
+  pub answers_more : (u : LinkState) (d : Act) (old was : List Outcome) (r : Outcome) → i < length acts → i < length old → u ≡ after m (take i acts)
       → r ≡ answer u (get_or acts i d) → was ≡ all_answers m (take i acts) ++ drop i old → set was i r ≡ all_answers m (take (i + 1) acts) ++ drop (i + 1) old
   answers_more u d old was r within room inv e n =
       let most : i ≤ length acts = omega arith in
-      let so_far : List Answer = all_answers m (take i acts) in
+      let so_far : List Outcome = all_answers m (take i acts) in
       let size : length so_far ≡ i = answers_length m (take i acts) ∙ length-take-le i acts most in
       let step : all_answers m (take (i + 1) acts) ≡ so_far ++ r ∷ [] =
       ap (all_answers m) (take_more acts i d within) ∙ answers_push m (take i acts) (get_or acts i d)
-      ∙ ap {B = List Answer} (λ y. so_far ++ y ∷ []) (sym (e ∙ ap (λ x. answer x (get_or acts i d)) inv)) in
-      ap {B = List Answer} (λ l. set l i r) (n ∙ ap {B = List Answer} (λ l. so_far ++ l) (drop_more old i r room))
+      ∙ ap {B = List Outcome} (λ y. so_far ++ y ∷ []) (sym (e ∙ ap (λ x. answer x (get_or acts i d)) inv)) in
+      ap {B = List Outcome} (λ l. set l i r) (n ∙ ap {B = List Outcome} (λ l. so_far ++ l) (drop_more old i r room))
       ∙ set_at so_far (get_or old i r) (drop (i + 1) old) r i size
-      ∙ sym (append_assoc so_far (r ∷ []) (drop (i + 1) old)) ∙ ap {B = List Answer} (λ l. l ++ drop (i + 1) old) (sym step)
+      ∙ sym (append_assoc so_far (r ∷ []) (drop (i + 1) old)) ∙ ap {B = List Outcome} (λ l. l ++ drop (i + 1) old) (sym step)
 
   pub state_all : (u : LinkState) → length acts ≤ i → u ≡ after m (take i acts) → u ≡ after m acts
   state_all u done e = e ∙ ap (after m) (take_all i acts done)
 
-  pub answers_all : (old was : List Answer) → length acts ≤ i → i ≤ length acts → was ≡ all_answers m (take i acts) ++ drop i old
+  pub answers_all : (old was : List Outcome) → length acts ≤ i → i ≤ length acts → was ≡ all_answers m (take i acts) ++ drop i old
       → was ≡ all_answers m acts ++ drop (length acts) old
   answers_all old was done most e =
       let k : i ≡ length acts = omega arith in
-      e ∙ ap {B = List Answer} (λ xs. all_answers m xs ++ drop i old) (take_all i acts done) ∙ ap {B = List Answer} (λ n. all_answers m acts ++ drop n old) k
+      e ∙ ap {B = List Outcome} (λ xs. all_answers m xs ++ drop i old) (take_all i acts done) ∙ ap {B = List Outcome} (λ n. all_answers m acts ++ drop n old) k
 
 -- the entries among the answers are those that the reads answered
 pub reads_told : (m : LinkState) (acts : List Act) → told (all_answers m acts) ≡ read_answers m acts

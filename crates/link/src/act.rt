@@ -1,7 +1,7 @@
-// What can be done to a link, and what comes of it.
-use line::{Level, Refusal};
+// What can be done to a link, and what comes of it where it is not refused.
+use line::Level;
 
-#[derive(Clone, Copy)]
+#[derive(Clone, Copy, PartialEq, Eq, Debug)]
 pub enum Act {
     // load a character
     Load(u16),
@@ -14,12 +14,11 @@ pub enum Act {
     Read,
 }
 
-#[derive(Clone, Copy)]
+#[derive(Clone, Copy, PartialEq, Eq, Debug)]
 pub enum Answer {
     Done,
     // the level that a send clock put on the line
     Line(Level),
     // a character and its flags
     Entry(u16, u8),
-    Refused(Refusal),
 }

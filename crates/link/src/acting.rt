@@ -68,33 +68,33 @@ impl<S: Sender, R: Receiver> Link<S, R> {
         self.receiver.read()
     }
 
-    pub fn act(&mut self, act: Act) -> Answer
+    pub fn act(&mut self, act: Act) -> Result<Answer, Refusal>
         ensures answer { result ≡ answer (link_of S.Sender.meaning R.Receiver.meaning self.old) act }
         ensures state { link_of S.Sender.meaning R.Receiver.meaning self.new ≡ after_act (link_of S.Sender.meaning R.Receiver.meaning self.old) act }
     {
         match act {
-            Act::Load(character) => match self.load(character) {
-                Ok(()) => Answer::Done,
-                Err(refusal) => Answer::Refused(refusal),
-            },
-            Act::Send => Answer::Line(self.send()),
+            Act::Load(character) => self.load(character).map(|()| Answer::Done),
+            Act::Send => Ok(Answer::Line(self.send())),
             Act::Receive => {
                 self.receive();
-                Answer::Done
+                Ok(Answer::Done)
             }
             Act::Noise(level) => {
                 self.noise(level);
-                Answer::Done
+                Ok(Answer::Done)
             }
-            Act::Read => match self.read() {
-                Ok((character, flags)) => Answer::Entry(character, flags),
-                Err(refusal) => Answer::Refused(refusal),
-            },
+            Act::Read => self
+                .read()
+                .map(|(character, flags)| Answer::Entry(character, flags)),
         }
     }
 
     // Does the acts one after the other and writes down what each answers; answers how many there were.
-    pub fn run(&mut self, acts: &[Act], answers: &mut [Answer]) -> Result<usize, Refusal>
+    pub fn run(
+        &mut self,
+        acts: &[Act],
+        answers: &mut [Result<Answer, Refusal>],
+    ) -> Result<usize, Refusal>
         ensures answer { MatchResult result (λ n. (n ≡ length acts.now) × (length acts.now ≤ length answers.old)) (λ e. (e ≡ TooShort) × (length answers.old < length acts.now)) }
         ensures answers { MatchResult result (λ n. answers.new ≡ all_answers (link_of S.Sender.meaning R.Receiver.meaning self.old) acts.now ++ drop n answers.old) (λ _. answers.new ≡ answers.old) }
         ensures state { MatchResult result (λ _. link_of S.Sender.meaning R.Receiver.meaning self.new ≡ after (link_of S.Sender.meaning R.Receiver.meaning self.old) acts.now) (λ _. self.new ≡ self.old) }

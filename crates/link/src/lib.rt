@@ -9,4 +9,4 @@ pub mod rates;
 
 pub use act::{Act, Answer};
 pub use joined::Link;
-pub use rates::{Verdict, fit};
+pub use rates::{Rates, Verdict, fit};

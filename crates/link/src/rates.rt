@@ -1,5 +1,5 @@
 // Whether the rates of two clocks fit.
-ghost use Rattle.std.specs.Prelude.{◌≡◌, ℕ, ◌+◌, ◌≤◌, IfOk};
+ghost use Rattle.std.specs.Prelude.{◌≡◌, ℕ, ◌+◌, ◌≤◌, ◌&&◌, IfOk};
 ghost use Rattle.line.specs.Frames.{first_stop};
 ghost use Rattle.link.specs.declared.rates.Verdict.TheVariants.{Passes};
 ghost use Rattle.link.specs.Fit.{Meets, SteadyDelivers};
@@ -19,48 +19,48 @@ pub enum Verdict {
     Late(usize),
 }
 
-// Whether a sender and a receiver fit, with so many send clocks to so many receive clocks; if not, the lowest bit that is
-// early or late.
+// So many send clocks come to so many receive clocks: the rates of two clocks, in hertz or any other unit.
+#[derive(Clone, Copy, PartialEq, Eq, Debug)]
+pub struct Rates {
+    pub send: u32,
+    pub receive: u32,
+}
+
+impl Rates {
+    // Whether both can be judged.
+    fn in_range(self) -> bool
+        ensures { result ≡ (rate_in_range self.send && rate_in_range self.receive) }
+    {
+        (1..=MOST_RATE).contains(&self.send) && (1..=MOST_RATE).contains(&self.receive)
+    }
+}
+
+// Whether a sender and a receiver fit when their clocks have these rates; if not, the lowest bit that is early or late.
 pub fn fit<S: Sender, R: Receiver>(
     sender: &S,
     receiver: &R,
-    send_rate: u32,
-    receive_rate: u32,
+    rates: Rates,
 ) -> Result<Verdict, Refusal>
-    ensures answer { result ≡ fit_answer (S.Sender.meaning sender.now) (R.Receiver.meaning receiver.now) send_rate receive_rate }
-    ensures exactly { IfOk result (λ f. (f ≡ Passes → Meets (S.Sender.meaning sender.now) (R.Receiver.meaning receiver.now) send_rate receive_rate) × (Meets (S.Sender.meaning sender.now) (R.Receiver.meaning receiver.now) send_rate receive_rate → f ≡ Passes)) }
-    ensures delivers { IfOk result (λ f. f ≡ Passes → SteadyDelivers (S.Sender.meaning sender.now) (R.Receiver.meaning receiver.now) send_rate receive_rate) }
+    ensures answer { result ≡ fit_answer (S.Sender.meaning sender.now) (R.Receiver.meaning receiver.now) rates.send rates.receive }
+    ensures exactly { IfOk result (λ f. (f ≡ Passes → Meets (S.Sender.meaning sender.now) (R.Receiver.meaning receiver.now) rates.send rates.receive) × (Meets (S.Sender.meaning sender.now) (R.Receiver.meaning receiver.now) rates.send rates.receive → f ≡ Passes)) }
+    ensures delivers { IfOk result (λ f. f ≡ Passes → SteadyDelivers (S.Sender.meaning sender.now) (R.Receiver.meaning receiver.now) rates.send rates.receive) }
 {
-    if !in_range(send_rate) {
-        return Err(Refusal::OutOfRange);
-    }
-    if !in_range(receive_rate) {
+    if !rates.in_range() {
         return Err(Refusal::OutOfRange);
     }
     if !sender.format().agrees(receiver.format()) {
         return Err(Refusal::FormatsDiffer);
     }
-    Ok(judge(sender, receiver, send_rate, receive_rate))
-}
-
-fn in_range(rate: u32) -> bool
-    ensures { result ≡ rate_in_range rate }
-{
-    1 <= rate && rate <= MOST_RATE
+    Ok(judge(sender, receiver, rates))
 }
 
 // The bits from the start bit through the first stop bit, one after the other.
-fn judge<S: Sender, R: Receiver>(
-    sender: &S,
-    receiver: &R,
-    send_rate: u32,
-    receive_rate: u32,
-) -> Verdict
-    requires { (send_rate ≤ 16777216) × (receive_rate ≤ 16777216) }
-    ensures { result ≡ judged (S.Sender.meaning sender.now) (R.Receiver.meaning receiver.now) send_rate receive_rate 0 (1 + first_stop (R.Receiver.meaning receiver.now).format) }
+fn judge<S: Sender, R: Receiver>(sender: &S, receiver: &R, rates: Rates) -> Verdict
+    requires { (rates.send ≤ 16777216) × (rates.receive ≤ 16777216) }
+    ensures { result ≡ judged (S.Sender.meaning sender.now) (R.Receiver.meaning receiver.now) rates.send rates.receive 0 (1 + first_stop (R.Receiver.meaning receiver.now).format) }
 {
-    let a = send_rate as u64;
-    let b = receive_rate as u64;
+    let a = rates.send as u64;
+    let b = rates.receive as u64;
     let mut begin = 0;
     for bit in 0..receiver.format().first_stop() + 1 {
         let end = begin + sender.bit_length(bit) as u64;

@@ -12,7 +12,7 @@ use Rattle.link.specs.declared.rates.Verdict.TheVariants.{Passes, Early as IsEar
 use Rattle.link.specs.Fit.{Fits}
 use Rattle.link.specs.Judging.{judged, rate_in_range, fit_answer}
 use Rattle.link.proofs.Judging.{passes_fits, fits_passes}
-use Rattle.sheet.specs.declared.tolerance.Rates.{Rates}
+use Rattle.link.specs.declared.rates.Rates.{Rates}
 use Rattle.sheet.specs.declared.tolerance.Off.{Off}
 use Rattle.sheet.specs.declared.tolerance.Off.TheVariants.{Sender, Receiver}
 use Rattle.sheet.specs.Tolerance.{is_pass, passes_at}

@@ -6,7 +6,7 @@ use Rattle.ends.specs.Receiver.{ReceiverState}
 use Rattle.link.specs.declared.rates.Verdict.{Verdict}
 use Rattle.link.specs.declared.rates.Verdict.TheVariants.{Passes, Early, Late}
 use Rattle.link.specs.Judging.{fit_answer}
-use Rattle.sheet.specs.declared.tolerance.Rates.{Rates}
+use Rattle.link.specs.declared.rates.Rates.{Rates}
 use Rattle.sheet.specs.declared.tolerance.Off.{Off}
 use Rattle.sheet.specs.declared.tolerance.Off.TheVariants.{Sender, Receiver}
 

@@ -6,4 +6,5 @@ pub mod divider;
 pub mod tolerance;
 
 pub use divider::nearest_divider;
-pub use tolerance::{Off, Rates, highest, lowest};
+pub use link::Rates;
+pub use tolerance::{Off, highest, lowest};

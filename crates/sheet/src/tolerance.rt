@@ -3,17 +3,10 @@ ghost use Rattle.std.specs.Prelude.{◌≡◌, false, MatchOption};
 ghost use Rattle.sheet.specs.Tolerance.{own_rate, passes_at, UpTo, DownTo};
 
 use ends::{Receiver, Sender};
-use link::{Verdict, fit};
+use link::{Rates, Verdict, fit};
 
 // One more than the greatest rate that Fit takes.
 const ABOVE_ALL: u32 = 16_777_217;
-
-// The rates of two clocks, in hertz.
-#[derive(Clone, Copy)]
-pub struct Rates {
-    pub send: u32,
-    pub receive: u32,
-}
 
 // The end whose clock is off.
 #[derive(Clone, Copy)]
@@ -22,14 +15,14 @@ pub enum Off {
     Receiver,
 }
 
-impl Rates {
+impl Off {
     // The rate that the clock of this end should have.
-    fn of(self, off: Off) -> u32
-        ensures { result ≡ own_rate self off }
+    fn own_rate(self, rates: Rates) -> u32
+        ensures { result ≡ own_rate rates self }
     {
-        match off {
-            Off::Sender => self.send,
-            Off::Receiver => self.receive,
+        match self {
+            Off::Sender => rates.send,
+            Off::Receiver => rates.receive,
         }
     }
 }
@@ -44,11 +37,17 @@ fn passes<S: Sender, R: Receiver>(
 ) -> bool
     ensures { result ≡ passes_at (S.Sender.meaning sender.now) (R.Receiver.meaning receiver.now) rates off hertz }
 {
-    let verdict = match off {
-        Off::Sender => fit(sender, receiver, hertz, rates.receive),
-        Off::Receiver => fit(sender, receiver, rates.send, hertz),
+    let varied = match off {
+        Off::Sender => Rates {
+            send: hertz,
+            ..rates
+        },
+        Off::Receiver => Rates {
+            receive: hertz,
+            ..rates
+        },
     };
-    match verdict {
+    match fit(sender, receiver, varied) {
         Ok(Verdict::Passes) => true,
         Ok(Verdict::Early(_) | Verdict::Late(_)) => false,
         Err(_) => false,
@@ -64,7 +63,7 @@ pub fn highest<S: Sender, R: Receiver>(
 ) -> Option<u32>
     ensures { MatchOption result (passes_at (S.Sender.meaning sender.now) (R.Receiver.meaning receiver.now) rates off (own_rate rates off) ≡ false) (λ h. UpTo (passes_at (S.Sender.meaning sender.now) (R.Receiver.meaning receiver.now) rates off) (own_rate rates off) h) }
 {
-    let mut good = rates.of(off);
+    let mut good = off.own_rate(rates);
     if !passes(sender, receiver, rates, off, good) {
         return None;
     }
@@ -89,7 +88,7 @@ pub fn lowest<S: Sender, R: Receiver>(
 ) -> Option<u32>
     ensures { MatchOption result (passes_at (S.Sender.meaning sender.now) (R.Receiver.meaning receiver.now) rates off (own_rate rates off) ≡ false) (λ h. DownTo (passes_at (S.Sender.meaning sender.now) (R.Receiver.meaning receiver.now) rates off) (own_rate rates off) h) }
 {
-    let mut good = rates.of(off);
+    let mut good = off.own_rate(rates);
     if !passes(sender, receiver, rates, off, good) {
         return None;
     }

@@ -3,7 +3,7 @@ use super::flags::Flags;
 use anyhow::bail;
 use ends::{BareReceiver, BareSender, Kind, Receiver, Sender, Timing};
 use line::{Format, Refusal};
-use link::{Link, Verdict, fit};
+use link::{Link, Rates, Verdict, fit};
 use lock::{CLOCK_HERTZ, DIVIDER, MODULATOR, lock_timing};
 use picture::{draw, hold_space, run_length, scan};
 use port::Port;
@@ -239,15 +239,19 @@ fn print_fit(rt: &HostRuntime, lock: &Timing, laptop: &Timing, hertz: u32) -> io
     let out = fit(
         &BareSender::new(*lock),
         &BareReceiver::new(*laptop),
-        CLOCK_HERTZ,
-        hertz,
+        Rates {
+            send: CLOCK_HERTZ,
+            receive: hertz,
+        },
     );
     print_verdict(rt, "lock to laptop", out)?;
     let back = fit(
         &BareSender::new(*laptop),
         &BareReceiver::new(*lock),
-        hertz,
-        CLOCK_HERTZ,
+        Rates {
+            send: hertz,
+            receive: CLOCK_HERTZ,
+        },
     );
     print_verdict(rt, "laptop to lock", back)
 }

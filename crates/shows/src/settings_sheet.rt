@@ -3,8 +3,8 @@ use super::named_ends::{port_timing, usart_timing};
 use super::verdicts::Told;
 use ends::{BareReceiver, BareSender, Timing};
 use line::{Format, Refusal};
-use link::{Verdict, fit};
-use sheet::{Off, Rates, highest, lowest, nearest_divider};
+use link::{Rates, Verdict, fit};
+use sheet::{Off, highest, lowest, nearest_divider};
 use std::io;
 use usart::{ROWS, Row};
 
@@ -40,7 +40,7 @@ fn judged(
     off: Off,
     hertz: u32,
 ) -> Result<Way, Refusal> {
-    let verdict = fit(sender, receiver, rates.send, rates.receive)?;
+    let verdict = fit(sender, receiver, rates)?;
     let slowest = lowest(sender, receiver, rates, off).unwrap_or(hertz);
     let fastest = highest(sender, receiver, rates, off).unwrap_or(hertz);
     Ok(Way {

@@ -16,7 +16,7 @@ returns-then-begin-b g c =
     let r = g.R.Receiver.meaning c.args.receiver.now in
     let bits : ℕ = 1 + first_stop r.format in
     let inside : c.loop-bit.bit < bits = omega (arith, c.loop-bit-test.true, c.first_stop-bit-end.ensures, ap first_stop c.format.ensures) in
-    sym (turn_early s r c.args.send_rate c.args.receive_rate c.loop-bit.bit bits c.loop-bit.begin c.bit_length.result c.sample_clock-first.result c.sample_clock-third.result
+    sym (turn_early s r c.args.rates.send c.args.rates.receive c.loop-bit.bit bits c.loop-bit.begin c.bit_length.result c.sample_clock-first.result c.sample_clock-third.result
     inside c.loop-bit.invariant.0 c.bit_length.ensures c.sample_clock-first.ensures c.sample_clock-third.ensures c.if-begin-b.true) ∙ c.loop-bit.invariant.2
 
 pub overflow_mul-end : goal.overflow_mul-end
@@ -26,8 +26,8 @@ overflow_mul-end g c =
     let most : c.loop-bit.bit ≤ 11 = omega (arith, c.loop-bit-test.true, c.first_stop-bit-end.ensures, stop_most c.format.result) in
     let short : c.bit_length.result ≤ 65536 = omega (arith, c.bit_length.ensures, (g.met.S.Sender.sound c.args.sender.now).short c.loop-bit.bit) in
     let end : ℕ = c.loop-bit.begin + c.bit_length.result in
-    fits_below (end * c.args.receive_rate)
-    (omega (arith, mul-le end c.args.receive_rate 786432 16777216 (omega (arith, c.loop-bit.invariant.1, most, short)) c.requires.1))
+    fits_below (end * c.args.rates.receive)
+    (omega (arith, mul-le end c.args.rates.receive 786432 16777216 (omega (arith, c.loop-bit.invariant.1, most, short)) c.requires.1))
 
 pub returns-then-third-a : goal.returns-then-third-a
 returns-then-third-a g c =
@@ -35,7 +35,7 @@ returns-then-third-a g c =
     let r = g.R.Receiver.meaning c.args.receiver.now in
     let bits : ℕ = 1 + first_stop r.format in
     let inside : c.loop-bit.bit < bits = omega (arith, c.loop-bit-test.true, c.first_stop-bit-end.ensures, ap first_stop c.format.ensures) in
-    sym (turn_late s r c.args.send_rate c.args.receive_rate c.loop-bit.bit bits c.loop-bit.begin c.bit_length.result c.sample_clock-first.result c.sample_clock-third.result
+    sym (turn_late s r c.args.rates.send c.args.rates.receive c.loop-bit.bit bits c.loop-bit.begin c.bit_length.result c.sample_clock-first.result c.sample_clock-third.result
     inside c.loop-bit.invariant.0 c.bit_length.ensures c.sample_clock-first.ensures c.sample_clock-third.ensures c.if-begin-b.false c.if-third-a.true) ∙ c.loop-bit.invariant.2
 
 pub loop-bit-preserved : goal.loop-bit-preserved
@@ -45,10 +45,10 @@ loop-bit-preserved g c =
     let bits : ℕ = 1 + first_stop r.format in
     let inside : c.loop-bit.bit < bits = omega (arith, c.loop-bit-test.true, c.first_stop-bit-end.ensures, ap first_stop c.format.ensures) in
     let short : c.bit_length.result ≤ 65536 = omega (arith, c.bit_length.ensures, (g.met.S.Sender.sound c.args.sender.now).short c.loop-bit.bit) in (
-      ends s r c.args.send_rate c.args.receive_rate c.loop-bit.bit bits c.loop-bit.begin c.bit_length.result c.sample_clock-first.result c.sample_clock-third.result
+      ends s r c.args.rates.send c.args.rates.receive c.loop-bit.bit bits c.loop-bit.begin c.bit_length.result c.sample_clock-first.result c.sample_clock-third.result
           inside c.loop-bit.invariant.0 c.bit_length.ensures c.sample_clock-first.ensures c.sample_clock-third.ensures,
       omega (arith, c.loop-bit.invariant.1, short),
-      sym (turn_good s r c.args.send_rate c.args.receive_rate c.loop-bit.bit bits c.loop-bit.begin c.bit_length.result c.sample_clock-first.result c.sample_clock-third.result
+      sym (turn_good s r c.args.rates.send c.args.rates.receive c.loop-bit.bit bits c.loop-bit.begin c.bit_length.result c.sample_clock-first.result c.sample_clock-third.result
           inside c.loop-bit.invariant.0 c.bit_length.ensures c.sample_clock-first.ensures c.sample_clock-third.ensures c.if-begin-b.false c.if-third-a.false) ∙ c.loop-bit.invariant.2,
     )
 
@@ -58,4 +58,4 @@ returns g c =
     let r = g.R.Receiver.meaning c.args.receiver.now in
     let bits : ℕ = 1 + first_stop r.format in
     let none : bits - c.loop-bit.bit ≡ 0 = omega (arith, c.loop-bit-test.false, c.first_stop-bit-end.ensures, ap first_stop c.format.ensures) in
-    sym (ap (judged s r c.args.send_rate c.args.receive_rate c.loop-bit.bit) none) ∙ c.loop-bit.invariant.2
+    sym (ap (judged s r c.args.rates.send c.args.rates.receive c.loop-bit.bit) none) ∙ c.loop-bit.invariant.2
