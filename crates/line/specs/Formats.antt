@@ -1,5 +1,7 @@
 -- A format by plain numbers, and when two formats agree.
-use Rattle.std.specs.Prelude.{◌≡◌, ℕ, Bool, true, false, cond, not, ◌&&◌}
+use Rattle.std.specs.Prelude.{◌≡◌, ℕ, Bool, true, false, if◌then◌else◌, not, ◌&&◌, Result, MatchResult}
+use Rattle.line.specs.declared.refusal.Refusal.{Refusal}
+use Rattle.line.specs.declared.refusal.Refusal.TheVariants.{OutOfRange}
 use Rattle.line.specs.Frames.{data_count, stop_count}
 use Rattle.line.specs.declared.format.DataBits.{DataBits}
 use Rattle.line.specs.declared.format.DataBits.TheVariants.{Seven, Eight}
@@ -12,10 +14,18 @@ parity_number Absent = 0
 parity_number Odd = 1
 parity_number Even = 2
 
+-- how many address bits there are
+abbrev pub address_count : Bool → ℕ
+address_count a = if a then 1 else 0
+
+-- the one that has this number, or a refusal where none has it
+abbrev pub NumberedBy : {A : Type 0} → (A → ℕ) → ℕ → Result A Refusal → Type 0
+NumberedBy {A} number n r = MatchResult r (λ x. number x ≡ n) (λ e. (e ≡ OutOfRange) × ((x : A) → number x ≡ n → ⊥))
+
 -- these are the format's numbers: its data bits, address bits, parity and stop bits
 pub record Numbers (f : Format) (data_bits address_bits parity stop_bits : ℕ) : Type 0 where
   pub of_size : data_count f.size ≡ data_bits
-  pub of_address : cond f.address 1 0 ≡ address_bits
+  pub of_address : address_count f.address ≡ address_bits
   pub of_parity : parity_number f.parity ≡ parity
   pub of_stops : stop_count f.stops ≡ stop_bits
 

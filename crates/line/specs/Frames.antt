@@ -1,5 +1,5 @@
 -- The bits of a frame. They count from 0: the start bit, the data bits with the least significant first, the address bit, the parity bit, the stop bits.
-use Rattle.std.specs.Prelude.{ℕ, ◌+◌, ◌%◌, cond, List, [], ◌∷◌, ◌++◌, replicate}
+use Rattle.std.specs.Prelude.{ℕ, ◌+◌, ◌%◌, if◌then◌else◌, List, [], ◌∷◌, ◌++◌, replicate}
 use Rattle.line.specs.Levels.{level_of, low_bits, marks}
 use Rattle.line.specs.declared.level.Level.{Level}
 use Rattle.line.specs.declared.level.Level.TheVariants.{Space, Mark}
@@ -17,7 +17,7 @@ data_count Eight = 8
 
 -- how many bits a character has: its data bits, and the address bit above them
 abbrev pub width : Format → ℕ
-width f = data_count f.size + cond f.address 1 0
+width f = data_count f.size + (if f.address then 1 else 0)
 
 abbrev pub parity_count : Parity → ℕ
 parity_count Absent = 0

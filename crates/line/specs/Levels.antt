@@ -1,5 +1,5 @@
 -- Levels, the bytes of a picture, and lists of levels as binary numbers.
-use Rattle.std.specs.Prelude.{ℕ, zero, suc, ◌+◌, ◌*◌, ◌/◌, ◌%◌, cond, List, [], ◌∷◌, Ok, Err, Result, ◌==◌}
+use Rattle.std.specs.Prelude.{ℕ, zero, suc, ◌+◌, ◌*◌, ◌/◌, ◌%◌, if◌then◌else◌, List, [], ◌∷◌, Ok, Err, Result, ◌==◌}
 use Rattle.line.specs.declared.level.Level.{Level}
 use Rattle.line.specs.declared.level.Level.TheVariants.{Space, Mark}
 use Rattle.line.specs.declared.refusal.Refusal.{Refusal}
@@ -12,11 +12,11 @@ byte_of Mark = 1
 
 -- the level that a byte of a picture stands for
 abbrev pub level_of_byte : ℕ → Result Level Refusal
-level_of_byte b = cond (b == 0) (Ok Space) (cond (b == 1) (Ok Mark) (Err NotALevel))
+level_of_byte b = if b == 0 then Ok Space else (if b == 1 then Ok Mark else Err NotALevel)
 
 -- the level of a binary digit
 abbrev pub level_of : ℕ → Level
-level_of n = cond (n == 0) Space Mark
+level_of n = if n == 0 then Space else Mark
 
 -- the n lowest binary digits of a number, the least significant first
 abbrev pub low_bits : ℕ → ℕ → List Level

@@ -1,38 +1,93 @@
 // Formats: how a character is put into a frame.
 ghost use Rattle.std.specs.Prelude.{◌≡◌, ℕ, ◌+◌, ◌^◌, ◌<◌, ◌≤◌, replicate, MatchBool, MatchResult};
 ghost use Rattle.line.specs.Levels.{number, low_bits};
-ghost use Rattle.line.specs.Frames.{width, first_stop, frame_bits, parity_bits, parity_count, stop_count, frame};
+ghost use Rattle.line.specs.Frames.{data_count, width, first_stop, frame_bits, parity_bits, parity_count, stop_count, frame};
 ghost use Rattle.line.specs.declared.level.Level.TheVariants.{Mark};
-ghost use Rattle.line.specs.Formats.{Numbers, Agree, agree};
+ghost use Rattle.line.specs.Formats.{NumberedBy, address_count, parity_number, Numbers, Agree, agree};
 
 use super::refusal::Refusal;
 
-#[derive(Clone, Copy)]
+#[derive(Clone, Copy, PartialEq, Eq, Debug)]
 pub enum DataBits {
     Seven,
     Eight,
 }
 
-#[derive(Clone, Copy)]
+#[derive(Clone, Copy, PartialEq, Eq, Debug)]
 pub enum Parity {
     Absent,
     Odd,
     Even,
 }
 
-#[derive(Clone, Copy)]
+#[derive(Clone, Copy, PartialEq, Eq, Debug)]
 pub enum StopBits {
     One,
     Two,
 }
 
-#[derive(Clone, Copy)]
+#[derive(Clone, Copy, PartialEq, Eq, Debug)]
 pub struct Format {
     pub size: DataBits,
     // whether a character carries an address bit above its data bits
     pub address: bool,
     pub parity: Parity,
     pub stops: StopBits,
+}
+
+impl TryFrom<u8> for DataBits {
+    type Error = Refusal;
+
+    ghost try_from_gives = { λ count result. NumberedBy data_count count result };
+
+    fn try_from(count: u8) -> Result<DataBits, Refusal> {
+        match count {
+            7 => Ok(DataBits::Seven),
+            8 => Ok(DataBits::Eight),
+            _ => Err(Refusal::OutOfRange),
+        }
+    }
+}
+
+// 0 is none, 1 odd, 2 even.
+impl TryFrom<u8> for Parity {
+    type Error = Refusal;
+
+    ghost try_from_gives = { λ number result. NumberedBy parity_number number result };
+
+    fn try_from(number: u8) -> Result<Parity, Refusal> {
+        match number {
+            0 => Ok(Parity::Absent),
+            1 => Ok(Parity::Odd),
+            2 => Ok(Parity::Even),
+            _ => Err(Refusal::OutOfRange),
+        }
+    }
+}
+
+impl TryFrom<u8> for StopBits {
+    type Error = Refusal;
+
+    ghost try_from_gives = { λ count result. NumberedBy stop_count count result };
+
+    fn try_from(count: u8) -> Result<StopBits, Refusal> {
+        match count {
+            1 => Ok(StopBits::One),
+            2 => Ok(StopBits::Two),
+            _ => Err(Refusal::OutOfRange),
+        }
+    }
+}
+
+// Whether so many address bits are one.
+fn address_bit(count: u8) -> Result<bool, Refusal>
+    ensures { NumberedBy address_count count result }
+{
+    match count {
+        0 => Ok(false),
+        1 => Ok(true),
+        _ => Err(Refusal::OutOfRange),
+    }
 }
 
 impl Format {
@@ -45,32 +100,11 @@ impl Format {
     ) -> Result<Format, Refusal>
         ensures { MatchResult result (λ f. Numbers f data_bits address_bits parity stop_bits) (λ e. (e ≡ Refusal.OutOfRange) × ((f : Format) → Numbers f data_bits address_bits parity stop_bits → ⊥)) }
     {
-        let size = match data_bits {
-            7 => DataBits::Seven,
-            8 => DataBits::Eight,
-            _ => return Err(Refusal::OutOfRange),
-        };
-        let address = match address_bits {
-            0 => false,
-            1 => true,
-            _ => return Err(Refusal::OutOfRange),
-        };
-        let parity = match parity {
-            0 => Parity::Absent,
-            1 => Parity::Odd,
-            2 => Parity::Even,
-            _ => return Err(Refusal::OutOfRange),
-        };
-        let stops = match stop_bits {
-            1 => StopBits::One,
-            2 => StopBits::Two,
-            _ => return Err(Refusal::OutOfRange),
-        };
         Ok(Format {
-            size,
-            address,
-            parity,
-            stops,
+            size: DataBits::try_from(data_bits)?,
+            address: address_bit(address_bits)?,
+            parity: Parity::try_from(parity)?,
+            stops: StopBits::try_from(stop_bits)?,
         })
     }
 
@@ -79,17 +113,7 @@ impl Format {
         ensures test { result ≡ agree self other }
         ensures cases { MatchBool result (Agree self other) (Agree self other → ⊥) }
     {
-        let size = match (self.size, other.size) {
-            (DataBits::Seven, DataBits::Seven) | (DataBits::Eight, DataBits::Eight) => true,
-            _ => false,
-        };
-        let parity = match (self.parity, other.parity) {
-            (Parity::Absent, Parity::Absent)
-            | (Parity::Odd, Parity::Odd)
-            | (Parity::Even, Parity::Even) => true,
-            _ => false,
-        };
-        size && self.address == other.address && parity
+        self.size == other.size && self.address == other.address && self.parity == other.parity
     }
 
     // How many bits a character has.
@@ -128,12 +152,7 @@ impl Format {
         ensures value { result ≡ 2 ^ width self }
         ensures bound { result ≤ 512 }
     {
-        match (self.size, self.address) {
-            (DataBits::Seven, false) => 128,
-            (DataBits::Seven, true) => 256,
-            (DataBits::Eight, false) => 256,
-            (DataBits::Eight, true) => 512,
-        }
+        1 << self.width()
     }
 
     // The parity bit of a character as a binary digit, mark being 1; 0 where the format has none.

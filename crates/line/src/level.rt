@@ -1,6 +1,6 @@
-// The two levels of a line, and the byte that stands for each in a picture.
+// The two levels of a line, the byte that stands for each in a picture, and the binary digit.
 ghost use Rattle.std.specs.Prelude.{◌≡◌};
-ghost use Rattle.line.specs.Levels.{byte_of, level_of_byte};
+ghost use Rattle.line.specs.Levels.{byte_of, level_of, level_of_byte};
 
 use super::refusal::Refusal;
 
@@ -10,23 +10,51 @@ pub enum Level {
     Mark,
 }
 
-impl Level {
-    pub fn byte(self) -> u8
-        ensures { result ≡ byte_of self }
-    {
-        match self {
+impl From<Level> for u8 {
+    ghost from_gives = { λ level byte. byte ≡ byte_of level };
+
+    fn from(level: Level) -> u8 {
+        match level {
             Level::Space => 0,
             Level::Mark => 1,
         }
     }
+}
 
-    pub fn from_byte(byte: u8) -> Result<Level, Refusal>
-        ensures { result ≡ level_of_byte byte }
-    {
+impl TryFrom<u8> for Level {
+    type Error = Refusal;
+
+    ghost try_from_gives = { λ byte result. result ≡ level_of_byte byte };
+
+    fn try_from(byte: u8) -> Result<Level, Refusal> {
         match byte {
             0 => Ok(Level::Space),
             1 => Ok(Level::Mark),
             _ => Err(Refusal::NotALevel),
         }
+    }
+}
+
+impl Level {
+    // The level of a binary digit; what is no digit counts as 1.
+    pub fn from_digit(digit: u16) -> Level
+        ensures { result ≡ level_of digit }
+    {
+        match digit {
+            0 => Level::Space,
+            _ => Level::Mark,
+        }
+    }
+
+    pub fn byte(self) -> u8
+        ensures { result ≡ byte_of self }
+    {
+        u8::from(self)
+    }
+
+    pub fn from_byte(byte: u8) -> Result<Level, Refusal>
+        ensures { result ≡ level_of_byte byte }
+    {
+        Level::try_from(byte)
     }
 }

@@ -26,12 +26,12 @@ pub enum Refusal {
     SyncSet,
 }
 
-impl Refusal {
-    // The number by which programs in other languages know it.
-    pub fn number(self) -> u8
-        ensures { result ≡ number_of self }
-    {
-        match self {
+// The number by which programs in other languages know it.
+impl From<Refusal> for u8 {
+    ghost from_gives = { λ refusal number. number ≡ number_of refusal };
+
+    fn from(refusal: Refusal) -> u8 {
+        match refusal {
             Refusal::OutOfRange => 1,
             Refusal::TooWide => 2,
             Refusal::Full => 3,
@@ -43,5 +43,13 @@ impl Refusal {
             Refusal::Closed => 9,
             Refusal::SyncSet => 10,
         }
+    }
+}
+
+impl Refusal {
+    pub fn number(self) -> u8
+        ensures { result ≡ number_of self }
+    {
+        u8::from(self)
     }
 }
