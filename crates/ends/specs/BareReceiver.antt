@@ -14,10 +14,10 @@ use Rattle.ends.specs.Times.{Times}
 use Rattle.ends.specs.Timed.{sample_clocks, times_of}
 use Rattle.ends.specs.Samples.{taken}
 
-abbrev pub doing_of : Doing → List Level → Meant
-doing_of Idle ls = idle
-doing_of (Framing clock) ls = framing clock ls
-doing_of (Counting spaces) ls = counting spaces
+abbrev pub doing_of : Doing → Meant
+doing_of Idle = idle
+doing_of (Framing clock samples) = framing clock (taken samples)
+doing_of (Counting spaces) = counting spaces
 
 abbrev pub meant : BareReceiver → ReceiverState
 meant r = record {
@@ -27,7 +27,7 @@ meant r = record {
   capacity = 1;
   unread = option_to_list r.unread;
   previous = r.previous;
-  doing = doing_of r.doing (taken r.samples);
+  doing = doing_of r.doing;
 }
 
 -- a bare receiver with these times that has heard nothing

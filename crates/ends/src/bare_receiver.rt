@@ -3,7 +3,6 @@ ghost use Rattle.std.specs.Prelude.{◌≡◌, ◌<◌, take};
 ghost use Rattle.ends.specs.Samples.{taken_by, due_by, spaces_by};
 
 use super::doing::Doing;
-use super::samples::Samples;
 use super::timing::Timing;
 use line::Level;
 
@@ -13,9 +12,7 @@ pub struct BareReceiver {
     pub(crate) unread: Option<(u16, u8)>,
     pub(crate) previous: Level,
     pub(crate) doing: Doing,
-    // those of the frame, while in one
-    pub(crate) samples: Samples,
-    ghost in_step: { taken_by doing samples.count ≡ due_by (take timing.sample_count timing.samples) doing },
-    ghost unended: { taken_by doing samples.count < timing.sample_count },
+    ghost in_step: { taken_by doing ≡ due_by (take timing.sample_count timing.samples) doing },
+    ghost unended: { taken_by doing < timing.sample_count },
     ghost unbroken: { spaces_by doing < timing.break_length },
 }

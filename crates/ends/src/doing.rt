@@ -1,9 +1,11 @@
 // What a bare receiver is doing.
+use super::samples::Samples;
+
 #[derive(Clone, Copy)]
 pub enum Doing {
     Idle,
-    // in a frame, at this clock of it
-    Framing { clock: u32 },
+    // in a frame, at this clock of it, with its samples so far
+    Framing { clock: u32, samples: Samples },
     // after a framing fault, with this many spaces since
     Counting { spaces: u32 },
 }

@@ -170,7 +170,6 @@ impl BareReceiver {
             unread: None,
             previous: Level::Mark,
             doing: Doing::Idle,
-            samples: Samples::none(),
         }
     }
 }
@@ -195,15 +194,18 @@ impl Receiver for BareReceiver {
     fn clock(&mut self, level: Level) {
         let previous = self.previous;
         self.previous = level;
+        let timing = &self.timing;
         match (&mut self.doing, previous, level) {
             (Doing::Idle | Doing::Counting { .. }, Level::Mark, Level::Space) => {
-                self.samples = Samples::begin(&self.timing);
-                self.doing = Doing::Framing { clock: 0 };
+                self.doing = Doing::Framing {
+                    clock: 0,
+                    samples: Samples::begin(timing),
+                };
             }
             (Doing::Idle, _, _) => {}
-            (Doing::Framing { clock }, _, _) => {
+            (Doing::Framing { clock, samples }, _, _) => {
                 *clock += 1;
-                match self.samples.clock(&self.timing, *clock, level) {
+                match samples.clock(timing, *clock, level) {
                     Progress::GoesOn => {}
                     Progress::FalseStart => self.doing = Doing::Idle,
                     Progress::Over(character, flags) => {
@@ -218,7 +220,7 @@ impl Receiver for BareReceiver {
                 }
             }
             (Doing::Counting { spaces }, Level::Space, Level::Space) => {
-                if *spaces + 1 < self.timing.break_length {
+                if *spaces + 1 < timing.break_length {
                     *spaces += 1;
                 } else {
                     self.doing = Doing::Idle;

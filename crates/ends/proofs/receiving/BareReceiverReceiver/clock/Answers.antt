@@ -19,17 +19,18 @@ counted r n e =
 pub overflow_add-spaces : goal.overflow_add-spaces
 overflow_add-spaces c = counted c.args.self.now c.in-Counting-Space-Space.spaces c.in-Counting-Space-Space.is-0
 
-pub overflow_add-spaces-then-spaces-self : goal.overflow_add-spaces-then-spaces-self
-overflow_add-spaces-then-spaces-self c = counted c.args.self.now c.in-Counting-Space-Space.spaces c.in-Counting-Space-Space.is-0
+pub overflow_add-spaces-then-spaces-timing : goal.overflow_add-spaces-then-spaces-timing
+overflow_add-spaces-then-spaces-timing c = counted c.args.self.now c.in-Counting-Space-Space.spaces c.in-Counting-Space-Space.is-0
 
 pub overflow_add-clock : goal.overflow_add-clock
 overflow_add-clock c =
     let r = c.args.self.now in
     let n : ℕ = c.in-Framing-default-default.clock in
-    let e : r.doing ≡ Framing n = c.in-Framing-default-default.is-0 in
+    let s = c.in-Framing-default-default.samples in
+    let e : r.doing ≡ Framing n s = c.in-Framing-default-default.is-0 in
     fits_below (n + 1) (omega (
       arith,
-      clock_early r.timing r.samples (n + 1)
-          (subst (λ (d : Doing). taken_by d r.samples.count ≡ due_by (sample_clocks r.timing) d) e r.in_step)
-          (subst (λ (d : Doing). taken_by d r.samples.count < r.timing.sample_count) e r.unended),
+      clock_early r.timing s (n + 1)
+          (subst (λ (d : Doing). taken_by d ≡ due_by (sample_clocks r.timing) d) e r.in_step)
+          (subst (λ (d : Doing). taken_by d < r.timing.sample_count) e r.unended),
     ))
