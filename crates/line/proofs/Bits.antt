@@ -1,5 +1,5 @@
 -- The bits of a frame: how many there are, and which stand where.
-use Rattle.std.proofs.Common.{◌≡◌, ℕ, zero, suc, ◌+◌, ◌*◌, ◌%◌, ◌^◌, ◌≤◌, Bool, true, false, cond, List, [], ◌∷◌, ◌++◌, length, get_or, drop, replicate, sym, refl, ap, ◌∙◌, ap₂, append_assoc, le_of_suc-le-suc, not-suc-le-zero, arith, length-append, drop_at}
+use Rattle.std.proofs.Common.{◌≡◌, ℕ, zero, suc, ◌+◌, ◌*◌, ◌%◌, ◌^◌, ◌≤◌, Bool, true, false, if◌then◌else◌, List, [], ◌∷◌, ◌++◌, length, get_or, drop, replicate, sym, refl, ap, ◌∙◌, ap₂, append_assoc, le_of_suc-le-suc, not-suc-le-zero, arith, length-append, drop_at}
 use lib.ListN.{length-replicate}
 use Rattle.line.specs.declared.level.Level.{Level}
 use Rattle.line.specs.declared.level.Level.TheVariants.{Space, Mark}
@@ -41,7 +41,7 @@ frame_length f c =
 pub width_most : (f : Format) → width f ≤ 9
 width_most f = go f.size f.address
   where
-    go : (d : DataBits) (a : Bool) → data_count d + cond a 1 0 ≤ 9
+    go : (d : DataBits) (a : Bool) → data_count d + (if a then 1 else 0) ≤ 9
     go Seven true = omega arith
     go Seven false = omega arith
     go Eight true = omega arith
@@ -50,7 +50,7 @@ width_most f = go f.size f.address
 pub width_least : (f : Format) → 7 ≤ width f
 width_least f = go f.size
   where
-    go : (d : DataBits) → 7 ≤ data_count d + cond f.address 1 0
+    go : (d : DataBits) → 7 ≤ data_count d + (if f.address then 1 else 0)
     go Seven = omega arith
     go Eight = omega arith
 

@@ -43,6 +43,10 @@ marks_low (suc n) c =
     marks_level (c % 2) (low_bits n (c / 2)) (omega arith) ∙ ap (λ (k : ℕ). c % 2 + k) (marks_low n (c / 2))
     ∙ ap₂ (λ (j k : ℕ). j + ones k) (omega (arith, e)) (omega (arith, e)) ∙ sym (ones_step m)
 
+-- the marks of a character are the ones of its lowest digits
+pub marks_of : (w c values : ℕ) → values ≡ 2 ^ w → ones (c % values) ≡ marks (low_bits w c)
+marks_of w c values e = ap (λ (n : ℕ). ones (c % n)) e ∙ sym (marks_low w c)
+
 -- the digits of ys stand above those of xs
 pub number_append : (xs ys : List Level) → number (xs ++ ys) ≡ number xs + 2 ^ length xs * number ys
 number_append [] ys = omega arith
@@ -52,24 +56,16 @@ number_append (Mark ∷ xs) ys = let h = number_append xs ys in omega (arith, do
 pub digit_number : (b : ℕ) → b < 2 → b ≡ number (level_of b ∷ [])
 digit_number b h = sym (number_level b [] h ∙ omega arith)
 
-even : (n : ℕ) → 2 * n % 2 ≡ 0
-even n = omega arith
-
-half : (n : ℕ) → 2 * n / 2 ≡ n
-half n = omega arith
-
-half_odd : (n : ℕ) → (1 + 2 * n) / 2 ≡ n
-half_odd n = omega arith
-
-odd : (n : ℕ) → (1 + 2 * n) % 2 ≡ 1
-odd n = omega arith
+-- the lowest digit, and those above it
+digit : (b n m k : ℕ) → m % 2 ≡ b → m / 2 ≡ n → low_bits (suc k) m ≡ level_of b ∷ low_bits k n
+digit b n m k low high = ap₂ {C = List Level} (λ d m. level_of d ∷ low_bits k m) low high
 
 pub low_number : (bs : List Level) → low_bits (length bs) (number bs) ≡ bs
 low_number [] = refl
 low_number (Space ∷ bs) = let n : ℕ = number bs in
-    ap₂ {C = List Level} (λ d m. level_of d ∷ low_bits (length bs) m) (even n) (half n) ∙ ap {B = List Level} (λ l. Space ∷ l) (low_number bs)
+    digit 0 n (2 * n) (length bs) (omega arith) (omega arith) ∙ ap {B = List Level} (λ l. Space ∷ l) (low_number bs)
 low_number (Mark ∷ bs) = let n : ℕ = number bs in
-    ap₂ {C = List Level} (λ d m. level_of d ∷ low_bits (length bs) m) (odd n) (half_odd n) ∙ ap {B = List Level} (λ l. Mark ∷ l) (low_number bs)
+    digit 1 n (1 + 2 * n) (length bs) (omega arith) (omega arith) ∙ ap {B = List Level} (λ l. Mark ∷ l) (low_number bs)
 
 pub drop_low : (k n c : ℕ) → drop k (low_bits (k + n) c) ≡ low_bits n (c / 2 ^ k)
 drop_low zero n c = ap₂ {C = List Level} (λ m d. low_bits m d) (plain n) (whole c)
