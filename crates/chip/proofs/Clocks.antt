@@ -1,15 +1,19 @@
 -- A clock of the chip, from what it does to the ends.
-use Rattle.std.proofs.Common.{◌≡◌, ℕ, ◌≤◌, Bool, true, false, ◌||◌, List, [], ◌∷◌, length, Some, None, Option, refl, ◌∙◌, ap₂, arith}
-use Rattle.std.specs.Option.{option_to_list}
+use Rattle.std.proofs.Common.{◌≡◌, ℕ, ◌≤◌, ◌||◌, List, [], ◌∷◌, length, Some, None, Option, option_map, sym, refl, ap, ◌∙◌, subst, ap₂, arith}
+use Rattle.std.specs.Option.{ForSome, option_to_list}
 use Rattle.line.specs.declared.level.Level.{Level}
-use Rattle.ends.specs.Sender.{SenderState, empty, sent, after_send, holding as sender_holding}
+use Rattle.line.specs.Frames.{width}
+use Rattle.ends.specs.Sender.{SenderState, empty, after_send, holding as sender_holding}
+use Rattle.ends.specs.BareSender.{meant}
 use Rattle.chip.specs.declared.mode.Mode.{Mode}
 use Rattle.chip.specs.declared.transmit.Transmit.{Transmit}
 use Rattle.chip.specs.declared.receive.Receive.{Receive}
 use Rattle.chip.specs.declared.rate.Rate.{Rate}
 use Rattle.chip.specs.Receiving.{all_taken}
-use Rattle.chip.specs.Pairs.{EndsState, arrivals, ends_clocked}
-use Rattle.chip.specs.Chips.{ChipState, holding, running, leaves, done, utxd, after_clock}
+use Rattle.chip.specs.declared.pair.Ends.{Ends}
+use Rattle.chip.specs.Modes.{format_of}
+use Rattle.chip.specs.Pairs.{EndsState, ends_of, arrivals, ends_clocked}
+use Rattle.chip.specs.Chips.{ChipState, holding, leaves, done, after_clock}
 
 -- a sender with room for one character
 module _ (s : SenderState) where
@@ -50,21 +54,26 @@ pub one_waits : (o : Option ℕ) → length (option_to_list o) ≤ 1
 one_waits None = omega arith
 one_waits (Some c) = omega arith
 
-module _ (m : Mode) (t : Transmit) (r : Receive) (q : Rate) (e : EndsState) (l : Level) where
-  pub utxd_now : (reset : Bool) → reset ≡ false → sent e.sender ≡ utxd (holding m t r q (running reset e))
-  utxd_now true is = absurd (let z : ◌≡◌ {A = ℕ} 0 1 = cc in omega arith)
-  utxd_now false is = refl
-
-  clocked_ends : length e.sender.waiting ≤ 1
+module _ (m : Mode) (t : Transmit) (r : Receive) (q : Rate) (l : Level) where
+  clocked_ends : (e : EndsState) → length e.sender.waiting ≤ 1
       → holding m t (all_taken m r (arrivals e m.listen l)) q (Some (ends_clocked e m.listen l)) ≡ after_clock (holding m t r q (Some e)) l
-  clocked_ends few =
+  clocked_ends e few =
       let rx : Receive = all_taken m r (arrivals e m.listen l) in
       ap₂ {C = ChipState} (λ u v. record { mode = m; transmit = t; receive = rx; rate = q; utxifg = u; txept = v; ends = Some (ends_clocked e m.listen l) })
       (room_after e.sender e.sender.left e.sender.waiting few) (done_after e.sender e.sender.left e.sender.waiting)
 
-  pub clocked_chip : (reset : Bool) → reset ≡ false → (f : EndsState) (rx : Receive) → length e.sender.waiting ≤ 1
-      → f ≡ ends_clocked e m.listen l → rx ≡ all_taken m r (arrivals e m.listen l)
-      → holding m t rx q (running reset f) ≡ after_clock (holding m t r q (running reset e)) l
-  clocked_chip true is f rx few ends_are received = absurd (let z : ◌≡◌ {A = ℕ} 0 1 = cc in omega arith)
-  clocked_chip false is f rx few ends_are received =
-      ap₂ {C = ChipState} (λ x y. holding m t x q (Some y)) received ends_are ∙ clocked_ends few
+  -- what a clock of ends that run does to the registers
+  pub clocked_chip : (o : Option Ends) (e f : Ends) (s : Receive) → o ≡ Some e → ends_of f ≡ ends_clocked (ends_of e) m.listen l
+      → s ≡ all_taken m r (arrivals (ends_of e) m.listen l) → holding m t s q (Some (ends_of f)) ≡ after_clock (holding m t r q (option_map ends_of o)) l
+  clocked_chip o e f s is clocked received =
+      ap₂ {C = ChipState} (λ x y. holding m t x q (Some y)) received clocked
+      ∙ clocked_ends (ends_of e) (one_waits e.sender.waiting)
+      ∙ sym (ap (λ (x : Option Ends). after_clock (holding m t r q (option_map ends_of x)) l) is)
+
+  -- and the sender takes what it took
+  pub still_wide : (o : Option Ends) (e f : Ends) → o ≡ Some e → ends_of f ≡ ends_clocked (ends_of e) m.listen l
+      → ForSome o (λ x. width (meant x.sender).format ≡ width (format_of m)) → ForSome (Some f) (λ x. width (meant x.sender).format ≡ width (format_of m))
+  still_wide o e f is clocked wide x same =
+      let here : f ≡ x = cc in
+      subst (λ (y : Ends). width (meant y.sender).format ≡ width (format_of m)) here
+      (ap (λ (y : EndsState). width y.sender.format) clocked ∙ ap width (send_format (meant e.sender)) ∙ wide e is)

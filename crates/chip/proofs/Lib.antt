@@ -1,5 +1,6 @@
 pub mod Clocks
 pub mod Writes
+pub mod EachBit
 pub mod Tells
 pub mod Stored
 pub mod Speaks

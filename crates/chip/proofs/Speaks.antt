@@ -1,22 +1,25 @@
 -- The levels on UTXD are those of a bare sender.
-use Rattle.std.proofs.Common.{◌≡◌, ℕ, ◌^◌, ◌<◌, ◌≤◌, Bool, true, false, cond, ◌&&◌, ◌||◌, eqb, List, [], ◌∷◌, ◌++◌, length, Some, Ok, Err, Option, Result, sym, refl, ap, ◌∙◌, subst, ap₂, arith}
+use Rattle.std.proofs.Common.{◌≡◌, ℕ, ◌^◌, ◌<◌, ◌≤◌, Bool, true, false, cond, ◌&&◌, ◌||◌, eqb, List, [], ◌∷◌, ◌++◌, length, Some, None, Ok, Err, Option, option_map, Result, sym, refl, ap, ◌∙◌, subst, ap₂, arith}
 use Rattle.std.proofs.lemmas.Bool.{eqb-true}
 use Rattle.line.specs.declared.level.Level.{Level}
 use Rattle.line.specs.declared.refusal.Refusal.{Refusal}
 use Rattle.line.specs.declared.refusal.Refusal.TheVariants.{Closed, Full}
 use Rattle.line.specs.Frames.{width}
+use Rattle.std.specs.Option.{ForSome}
 use Rattle.ends.specs.Sender.{SenderState, empty, accepted, sent, after_send}
+use Rattle.ends.specs.BareSender.{meant}
 use Rattle.chip.specs.declared.mode.Mode.{Mode}
 use Rattle.chip.specs.declared.transmit.Transmit.{Transmit}
 use Rattle.chip.specs.declared.receive.Receive.{Receive}
 use Rattle.chip.specs.declared.rate.Rate.{Rate}
 use Rattle.chip.specs.Bytes.{has}
 use Rattle.chip.specs.Modes.{format_of, character_of}
-use Rattle.chip.specs.Pairs.{EndsState, ends_clocked, ends_loaded}
-use Rattle.chip.specs.Chips.{ChipState, holding, running, resets, write_answer, written, clocked, leaves, on_line, utxd}
+use Rattle.chip.specs.declared.pair.Ends.{Ends}
+use Rattle.chip.specs.Pairs.{EndsState, ends_of, ends_clocked, ends_loaded}
+use Rattle.chip.specs.Chips.{ChipState, holding, resets, write_answer, written, clocked, leaves, on_line, utxd}
 use Rattle.chip.specs.Acts.{Act, writes, reads, clocks, NoReset, on_utxd, Step, loads, said, AllTaken, steps}
 use Rattle.chip.specs.Laws.{Speaks}
-use Rattle.chip.proofs.Clocks.{room_after, send_format, send_capacity, few_after}
+use Rattle.chip.proofs.Clocks.{room_after, send_format, send_capacity, few_after, one_waits}
 use Rattle.chip.proofs.Writes.{narrow, load_taken, waits_then, load_format, load_capacity, load_few}
 
 -- what ties the sender to the registers
@@ -126,10 +129,10 @@ speaks (clocks l ∷ xs) nr c e is ok =
     (sym (ap (λ (o : Option EndsState). clocked c o l) is)) (ap₂ {C = List Level} (λ y ys. y ∷ ys) (ap on_line is) more.0, more.1)
 
 -- so does a chip, in reset or not
-pub chip_speaks : (m : Mode) (t : Transmit) (r : Receive) (q : Rate) (reset : Bool) (e : EndsState) → (reset ≡ false → width e.sender.format ≡ width (format_of m))
-    → e.sender.capacity ≡ 1 → length e.sender.waiting ≤ 1 → Speaks (holding m t r q (running reset e))
-chip_speaks m t r q true e wide one few f is acts nr = absurd (let z : ◌≡◌ {A = ℕ} 0 1 = cc in omega arith)
-chip_speaks m t r q false e wide one few f is acts nr =
-    let same : e ≡ f = cc in
-    speaks acts nr (holding m t r q (Some e)) f is (subst (λ (g : EndsState). Sound m (empty e.sender.waiting) g.sender) same
-    (record { wide = wide refl; one = one; room = refl; few = few }))
+pub chip_speaks : (m : Mode) (t : Transmit) (r : Receive) (q : Rate) (o : Option Ends)
+    → ForSome o (λ e. width (meant e.sender).format ≡ width (format_of m)) → Speaks (holding m t r q (option_map ends_of o))
+chip_speaks m t r q None wide f is acts nr = cc
+chip_speaks m t r q (Some e) wide f is acts nr =
+    let same : ends_of e ≡ f = cc in
+    speaks acts nr (holding m t r q (Some (ends_of e))) f is (subst (λ (g : EndsState). Sound m (empty (meant e.sender).waiting) g.sender) same
+    (record { wide = wide e refl; one = refl; room = refl; few = one_waits e.sender.waiting }))

@@ -1,5 +1,5 @@
 -- The chip: what it holds, and what a write, a read and a clock do.
-use Rattle.std.specs.Prelude.{ℕ, ◌+◌, ◌*◌, ◌%◌, Bool, true, false, cond, not, ◌&&◌, ◌||◌, List, [], is_some, Some, None, Ok, Err, Option, Result, ◌==◌, nat_le, nat_lt}
+use Rattle.std.specs.Prelude.{ℕ, ◌+◌, ◌*◌, ◌%◌, Bool, true, false, cond, not, ◌&&◌, ◌||◌, List, [], is_some, Some, None, Ok, Err, Option, Result, option_map, ◌==◌, nat_le, nat_lt}
 use Rattle.line.specs.declared.level.Level.{Level}
 use Rattle.line.specs.declared.level.Level.TheVariants.{Mark}
 use Rattle.line.specs.declared.refusal.Refusal.{Refusal}
@@ -41,11 +41,6 @@ abbrev pub left : Option EndsState → List Level
 left None = []
 left (Some e) = e.sender.left
 
--- the ends, where they are not held in reset
-abbrev pub running : Bool → EndsState → Option EndsState
-running true e = None
-running false e = Some e
-
 -- a chip with these registers whose ends hold this
 abbrev pub holding : Mode → Transmit → Receive → Rate → Option EndsState → ChipState
 holding m t r q e = record {
@@ -59,7 +54,7 @@ holding m t r q e = record {
 }
 
 abbrev pub chip_of : Chip → ChipState
-chip_of c = holding c.mode c.transmit c.receive c.rate (running c.swrst (ends_of c.ends))
+chip_of c = holding c.mode c.transmit c.receive c.rate (option_map ends_of c.ends)
 
 -- UTCTL with nothing stored, and an empty UTXBUF
 abbrev pub no_bits : Transmit

@@ -1,11 +1,9 @@
 // How the registers are written and read, and how the chip is clocked.
-ghost use Rattle.std.specs.Prelude.{◌≡◌, ℕ, ◌%◌, ◌<◌, true, false, if◌then◌else◌, Some, None, Ok, Err, nat_lt};
+ghost use Rattle.std.specs.Prelude.{◌≡◌, ℕ, ◌<◌, true, not, if◌then◌else◌, Some, None, Ok, Err, nat_lt};
 ghost use Rattle.line.specs.declared.refusal.Refusal.TheVariants.{OutOfRange};
-ghost use Rattle.chip.specs.Modes.{values, character_of};
-ghost use Rattle.chip.specs.Transmitting.{unwoken, buffer_written};
+ghost use Rattle.chip.specs.Transmitting.{unwoken};
 ghost use Rattle.chip.specs.Receiving.{cleared};
-ghost use Rattle.chip.specs.Pairs.{ends_of, ends_loaded};
-ghost use Rattle.chip.specs.Chips.{ChipState, chip_of, holding, power_up, divider, begun, write_answer, after_write, read_answer, after_read, utxd, after_clock};
+ghost use Rattle.chip.specs.Chips.{ChipState, chip_of, holding, released, power_up, divider, begun, write_answer, after_write, read_answer, after_read, utxd, after_clock};
 ghost use Rattle.chip.specs.Laws.{Tells, ReadBack, Speaks, Listens};
 
 use super::address::*;
@@ -17,11 +15,11 @@ use super::receive::Receive;
 use super::registers::Chip;
 use super::transmit::Transmit;
 use ends::{Kind, Sender};
-use line::{Level, Refusal};
+use line::{Format, Level, Refusal};
 use usart::{Settings, Usart};
 
 // What the two interrupt flags tell.
-#[derive(Clone, Copy)]
+#[derive(Clone, Copy, PartialEq, Eq, Debug)]
 pub struct Interrupts {
     // a byte in URXBUF has not been read
     pub urxifg: bool,
@@ -35,50 +33,32 @@ impl Chip {
         ensures state { chip_of result ≡ power_up }
         ensures stored { (c : ChipState) (v : ℕ) → v < 256 → ReadBack c v }
     {
-        let mode = Mode::from_byte(0);
         Chip {
-            swrst: true,
-            mode,
-            transmit: Transmit {
-                unused7: false,
-                ckpl: false,
-                ssel1: false,
-                ssel0: false,
-                urxse: false,
-                txwake: false,
-                unused1: false,
-                utxbuf: 0,
-            },
-            receive: Receive {
-                fe: false,
-                pe: false,
-                oe: false,
-                brk: false,
-                urxeie: false,
-                urxwie: false,
-                rxwake: false,
-                urxifg: false,
-                urxbuf: 0,
-            },
-            rate: Rate {
-                modulator: 0,
-                low: 0,
-                high: 0,
-            },
-            ends: Ends::unused(),
+            mode: Mode::default(),
+            transmit: Transmit::default(),
+            receive: Receive::default(),
+            rate: Rate::default(),
+            ends: None,
         }
+    }
+
+    // Whether SWRST is set.
+    fn is_held(&self) -> bool
+        ensures { result ≡ not (released (chip_of self.now)) }
+    {
+        self.ends.is_none()
     }
 
     fn utxifg(&self) -> bool
         ensures { result ≡ (chip_of self.now).utxifg }
     {
-        self.swrst || self.ends.sender.has_room()
+        self.ends.as_ref().is_none_or(|ends| ends.sender.has_room())
     }
 
     fn txept(&self) -> bool
         ensures { result ≡ (chip_of self.now).txept }
     {
-        self.swrst || self.ends.sender.is_done()
+        self.ends.as_ref().is_none_or(|ends| ends.sender.is_done())
     }
 
     pub fn interrupts(&self) -> Interrupts
@@ -96,12 +76,9 @@ impl Chip {
     fn hold(&mut self, mode: Mode)
         ensures { chip_of self.new ≡ holding mode (unwoken self.old.transmit) (cleared self.old.receive) self.old.rate None }
     {
-        self.swrst = true;
+        self.ends = None;
         self.mode = mode;
-        self.transmit = Transmit {
-            txwake: false,
-            ..self.transmit
-        };
+        self.transmit.txwake = false;
         self.receive.clear();
     }
 
@@ -110,23 +87,28 @@ impl Chip {
         ensures answer { result ≡ (if nat_lt (divider self.old.rate) 3 then Err OutOfRange else Ok tt) }
         ensures state { chip_of self.new ≡ (if nat_lt (divider self.old.rate) 3 then chip_of self.old else holding mode self.old.transmit self.old.receive self.old.rate (Some (begun mode self.old.rate))) }
     {
-        let timing = Usart::timing(mode.format(), self.rate.settings()?)?;
-        self.ends = Ends::at_rest(timing);
+        let timing = Usart::timing(Format::from(mode), Settings::try_from(self.rate)?)?;
+        self.ends = Some(Ends::at_rest(timing));
         self.mode = mode;
-        self.swrst = false;
         Ok(())
     }
 
-    // A byte to be sent.
+    // A write of UTXBUF while UTXIFG is 1.
     fn send(&mut self, byte: u8) -> Result<(), Refusal>
-        requires { (self.old.swrst ≡ false) × ((chip_of self.old).utxifg ≡ true) }
-        ensures answer { result ≡ Ok tt }
-        ensures state { chip_of self.new ≡ holding self.old.mode (buffer_written self.old.transmit (byte % values self.old.mode)) self.old.receive self.old.rate (Some (ends_loaded (ends_of self.old.ends) (character_of self.old.mode self.old.transmit.txwake byte))) }
+        requires { (chip_of self.old).utxifg ≡ true }
+        ensures answer { result ≡ write_answer (chip_of self.old) UTXBUF byte }
+        ensures state { chip_of self.new ≡ after_write (chip_of self.old) UTXBUF byte }
     {
+        let Some(ends) = &mut self.ends else {
+            return Err(Refusal::Closed);
+        };
         let character = self.mode.character(self.transmit.txwake, byte);
-        self.ends.sender.load(character)?;
-        self.transmit.utxbuf = self.mode.cut(byte);
-        self.transmit.txwake = false;
+        ends.sender.load(character)?;
+        self.transmit = Transmit {
+            txwake: false,
+            utxbuf: self.mode.cut(byte),
+            ..self.transmit
+        };
         Ok(())
     }
 
@@ -134,17 +116,18 @@ impl Chip {
         ensures answer { result ≡ write_answer (chip_of self.old) address value }
         ensures state { chip_of self.new ≡ after_write (chip_of self.old) address value }
     {
+        let held = self.is_held();
         match address {
-            UCTL if has(value, SWRST) => self.hold(Mode::from_byte(value)),
-            UCTL if self.swrst && has(value, SYNC) => return Err(Refusal::SyncSet),
-            UCTL if self.swrst => return self.release(Mode::from_byte(value)),
-            UTCTL => self.transmit.write(value, self.swrst),
+            UCTL if has(value, SWRST) => self.hold(Mode::from(value)),
+            UCTL if held && has(value, SYNC) => return Err(Refusal::SyncSet),
+            UCTL if held => return self.release(Mode::from(value)),
+            UTCTL => self.transmit.write(value, held),
             URCTL => self.receive.write(value),
-            UMCTL if self.swrst => self.rate.modulator = value,
-            UBR0 if self.swrst => self.rate.low = value,
-            UBR1 if self.swrst => self.rate.high = value,
-            UTXBUF if !self.swrst && self.utxifg() => return self.send(value),
-            UTXBUF if !self.swrst => return Err(Refusal::Full),
+            UMCTL if held => self.rate.modulator = value,
+            UBR0 if held => self.rate.low = value,
+            UBR1 if held => self.rate.high = value,
+            UTXBUF if !held && self.utxifg() => return self.send(value),
+            UTXBUF if !held => return Err(Refusal::Full),
             UCTL..=UTXBUF => return Err(Refusal::Closed),
             _ => return Err(Refusal::NoSuchRegister),
         }
@@ -156,7 +139,7 @@ impl Chip {
         ensures state { chip_of self.new ≡ after_read (chip_of self.old) address }
     {
         match address {
-            UCTL => Ok(self.mode.byte(self.swrst)),
+            UCTL => Ok(self.mode.byte(self.is_held())),
             UTCTL => Ok(self.transmit.byte(self.txept())),
             URCTL => Ok(self.receive.byte()),
             UMCTL => Ok(self.rate.modulator),
@@ -178,12 +161,12 @@ impl Chip {
         ensures speaks { Speaks (chip_of self.old) }
         ensures listens { Listens (chip_of self.old) }
     {
-        if self.swrst {
+        let Some(ends) = &mut self.ends else {
             return Level::Mark;
-        }
-        let (utxd, arrived) = self.ends.clock(self.mode.listen, level);
-        if let Some((character, flags)) = arrived {
-            self.receive.take(self.mode, character, flags);
+        };
+        let (utxd, arrived) = ends.clock(self.mode.listen, level);
+        if let Some(entry) = arrived {
+            self.receive.take(self.mode, entry);
         }
         utxd
     }

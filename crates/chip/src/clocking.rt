@@ -5,11 +5,9 @@ ghost use Rattle.ends.specs.Sender.{sent};
 ghost use Rattle.ends.specs.Timed.{times_of};
 ghost use Rattle.chip.specs.Pairs.{ends_of, resting, arrivals, ends_clocked};
 
-use super::mode::Mode;
 use super::pair::Ends;
 use ends::{BareReceiver, BareSender, Kind, Receiver, Sender, Timing};
 use line::Level;
-use usart::{Settings, Usart};
 
 impl Ends {
     pub(crate) fn at_rest(timing: Timing) -> Ends
@@ -19,18 +17,6 @@ impl Ends {
             sender: BareSender::new(timing),
             receiver: BareReceiver::new(timing),
         }
-    }
-
-    // Ends that are never clocked, for a chip that was never released.
-    pub(crate) fn unused() -> Ends {
-        let format = Mode::from_byte(0).format();
-        let Ok(settings) = Settings::new(3, 0) else {
-            unreachable()
-        };
-        let Ok(timing) = Usart::timing(format, settings) else {
-            unreachable()
-        };
-        Ends::at_rest(timing)
     }
 
     // One clock of both: the level on UTXD, and the entry that arrives, if one does. With `listen` the receiver sees that

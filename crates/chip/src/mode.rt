@@ -2,26 +2,14 @@
 ghost use Rattle.std.specs.Prelude.{◌≡◌, ◌%◌};
 ghost use Rattle.chip.specs.Modes.{mode_of, mode_byte, format_of, values, character_of};
 
-use super::bits::{byte, has};
+use super::bits::{bits, byte};
 use line::{DataBits, Format, Parity, StopBits};
-
-const PENA: u8 = 0x80;
-
-const PEV: u8 = 0x40;
-
-const SP: u8 = 0x20;
-
-const CHAR: u8 = 0x10;
-
-const LISTEN: u8 = 0x08;
 
 pub(crate) const SYNC: u8 = 0x04;
 
-const MM: u8 = 0x02;
-
 pub(crate) const SWRST: u8 = 0x01;
 
-#[derive(Clone, Copy)]
+#[derive(Clone, Copy, PartialEq, Eq, Debug, Default)]
 pub struct Mode {
     // a parity bit
     pub pena: bool,
@@ -39,21 +27,51 @@ pub struct Mode {
     pub mm: bool,
 }
 
-impl Mode {
-    pub(crate) fn from_byte(value: u8) -> Mode
-        ensures { result ≡ mode_of value }
-    {
+// UCTL as it is written.
+impl From<u8> for Mode {
+    ghost from_gives = { λ value mode. mode ≡ mode_of value };
+
+    fn from(value: u8) -> Mode {
+        let [pena, pev, sp, chars, listen, sync, mm, _] = bits(value);
         Mode {
-            pena: has(value, PENA),
-            pev: has(value, PEV),
-            sp: has(value, SP),
-            chars: has(value, CHAR),
-            listen: has(value, LISTEN),
-            sync: has(value, SYNC),
-            mm: has(value, MM),
+            pena,
+            pev,
+            sp,
+            chars,
+            listen,
+            sync,
+            mm,
         }
     }
+}
 
+// The format that counts from release on.
+impl From<Mode> for Format {
+    ghost from_gives = { λ mode format. format ≡ format_of mode };
+
+    fn from(mode: Mode) -> Format {
+        Format {
+            size: if mode.chars {
+                DataBits::Eight
+            } else {
+                DataBits::Seven
+            },
+            address: mode.mm,
+            parity: match (mode.pena, mode.pev) {
+                (false, _) => Parity::Absent,
+                (true, false) => Parity::Odd,
+                (true, true) => Parity::Even,
+            },
+            stops: if mode.sp {
+                StopBits::Two
+            } else {
+                StopBits::One
+            },
+        }
+    }
+}
+
+impl Mode {
     // UCTL as it is read, with SWRST as it stands.
     pub(crate) fn byte(self, swrst: bool) -> u8
         ensures { result ≡ mode_byte self swrst }
@@ -68,32 +86,6 @@ impl Mode {
             self.mm,
             swrst,
         ])
-    }
-
-    pub(crate) fn format(self) -> Format
-        ensures { result ≡ format_of self }
-    {
-        let size = if self.chars {
-            DataBits::Eight
-        } else {
-            DataBits::Seven
-        };
-        let parity = match (self.pena, self.pev) {
-            (false, _) => Parity::Absent,
-            (true, false) => Parity::Odd,
-            (true, true) => Parity::Even,
-        };
-        let stops = if self.sp {
-            StopBits::Two
-        } else {
-            StopBits::One
-        };
-        Format {
-            size,
-            address: self.mm,
-            parity,
-            stops,
-        }
     }
 
     // How many values the data bits of a character have.

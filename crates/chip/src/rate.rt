@@ -1,22 +1,25 @@
 // The divider and the modulator as the registers hold them.
-ghost use Rattle.std.specs.Prelude.{◌≡◌, ◌+◌, ◌*◌, ◌<◌, ◌≤◌, MatchResult};
+ghost use Rattle.std.specs.Prelude.{◌≡◌, ◌<◌, ◌≤◌, MatchResult};
 ghost use Rattle.line.specs.declared.refusal.Refusal.TheVariants.{OutOfRange};
+ghost use Rattle.chip.specs.Chips.{divider};
 
 use line::Refusal;
 use usart::Settings;
 
-#[derive(Clone, Copy)]
+#[derive(Clone, Copy, PartialEq, Eq, Debug, Default)]
 pub struct Rate {
     pub modulator: u8,
     pub low: u8,
     pub high: u8,
 }
 
-impl Rate {
-    pub(crate) fn settings(self) -> Result<Settings, Refusal>
-        ensures { MatchResult result (λ s. (3 ≤ 256 * self.high + self.low) × (s.divider ≡ 256 * self.high + self.low) × (s.modulator ≡ self.modulator)) (λ e. (256 * self.high + self.low < 3) × (e ≡ OutOfRange)) }
-    {
-        let divider = 256 * u16::from(self.high) + u16::from(self.low);
-        Settings::new(divider, self.modulator)
+impl TryFrom<Rate> for Settings {
+    type Error = Refusal;
+
+    ghost try_from_gives = { λ rate result. MatchResult result (λ s. (3 ≤ divider rate) × (s.divider ≡ divider rate) × (s.modulator ≡ rate.modulator)) (λ e. (divider rate < 3) × (e ≡ OutOfRange)) };
+
+    fn try_from(rate: Rate) -> Result<Settings, Refusal> {
+        let divider = u16::from_be_bytes([rate.high, rate.low]);
+        Settings::new(divider, rate.modulator)
     }
 }

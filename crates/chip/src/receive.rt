@@ -2,25 +2,11 @@
 ghost use Rattle.std.specs.Prelude.{◌≡◌};
 ghost use Rattle.chip.specs.Receiving.{receive_byte, urctl_written, cleared, taken};
 
-use super::bits::{byte, has};
+use super::bits::{bits, byte, has};
 use super::mode::Mode;
 use ends::{BREAK, FRAMING, PARITY};
 
-const FE: u8 = 0x80;
-
-const PE: u8 = 0x40;
-
-const OE: u8 = 0x20;
-
-const BRK: u8 = 0x10;
-
-const URXEIE: u8 = 0x08;
-
-const URXWIE: u8 = 0x04;
-
-const RXWAKE: u8 = 0x02;
-
-#[derive(Clone, Copy)]
+#[derive(Clone, Copy, PartialEq, Eq, Debug, Default)]
 pub struct Receive {
     // framing error
     pub fe: bool,
@@ -46,13 +32,14 @@ impl Receive {
     pub(crate) fn write(&mut self, value: u8)
         ensures { self.new ≡ urctl_written self.old value }
     {
-        self.fe &= has(value, FE);
-        self.pe &= has(value, PE);
-        self.oe &= has(value, OE);
-        self.brk &= has(value, BRK);
-        self.urxeie = has(value, URXEIE);
-        self.urxwie = has(value, URXWIE);
-        self.rxwake &= has(value, RXWAKE);
+        let [fe, pe, oe, brk, urxeie, urxwie, rxwake, _] = bits(value);
+        self.fe &= fe;
+        self.pe &= pe;
+        self.oe &= oe;
+        self.brk &= brk;
+        self.urxeie = urxeie;
+        self.urxwie = urxwie;
+        self.rxwake &= rxwake;
     }
 
     // URCTL as it is read.
@@ -75,18 +62,19 @@ impl Receive {
     pub(crate) fn clear(&mut self)
         ensures { self.new ≡ cleared self.old }
     {
-        self.fe = false;
-        self.pe = false;
-        self.oe = false;
-        self.brk = false;
-        self.rxwake = false;
-        self.urxifg = false;
+        *self = Receive {
+            urxeie: self.urxeie,
+            urxwie: self.urxwie,
+            urxbuf: self.urxbuf,
+            ..Receive::default()
+        };
     }
 
     // An entry has arrived.
-    pub(crate) fn take(&mut self, mode: Mode, character: u16, flags: u8)
-        ensures { self.new ≡ taken mode self.old (character, flags) }
+    pub(crate) fn take(&mut self, mode: Mode, entry: (u16, u8))
+        ensures { self.new ≡ taken mode self.old entry }
     {
+        let (character, flags) = entry;
         let address = character >= mode.values();
         if mode.mm && self.urxwie && !address {
             return;

@@ -1,5 +1,6 @@
 // The chip: its registers and its two ends.
-ghost use Rattle.std.specs.Prelude.{◌≡◌, false};
+ghost use Rattle.std.specs.Prelude.{◌≡◌};
+ghost use Rattle.std.specs.Option.{ForSome};
 ghost use Rattle.line.specs.Frames.{width};
 ghost use Rattle.ends.specs.BareSender.{meant};
 ghost use Rattle.chip.specs.Modes.{format_of};
@@ -12,14 +13,12 @@ use super::transmit::Transmit;
 
 #[derive(Clone, Copy)]
 pub struct Chip {
-    // held in reset
-    pub(crate) swrst: bool,
     pub(crate) mode: Mode,
     pub(crate) transmit: Transmit,
     pub(crate) receive: Receive,
     pub(crate) rate: Rate,
-    // of no meaning while in reset
-    pub(crate) ends: Ends,
+    // none while held in reset
+    pub(crate) ends: Option<Ends>,
     // the sender takes what is written in this mode
-    ghost wide: { swrst ≡ false → width (meant ends.sender).format ≡ width (format_of mode) },
+    ghost wide: { ForSome ends (λ e. width (meant e.sender).format ≡ width (format_of mode)) },
 }

@@ -2,24 +2,10 @@
 ghost use Rattle.std.specs.Prelude.{◌≡◌};
 ghost use Rattle.chip.specs.Transmitting.{transmit_byte, utctl_written};
 
-use super::bits::{byte, has};
-
-const UNUSED7: u8 = 0x80;
-
-const CKPL: u8 = 0x40;
-
-const SSEL1: u8 = 0x20;
-
-const SSEL0: u8 = 0x10;
-
-const URXSE: u8 = 0x08;
-
-const TXWAKE: u8 = 0x04;
-
-const UNUSED1: u8 = 0x02;
+use super::bits::{bits, byte};
 
 // All but TXWake are stored and do nothing here.
-#[derive(Clone, Copy)]
+#[derive(Clone, Copy, PartialEq, Eq, Debug, Default)]
 pub struct Transmit {
     pub unused7: bool,
     // clock polarity
@@ -40,13 +26,17 @@ impl Transmit {
     pub(crate) fn write(&mut self, value: u8, swrst: bool)
         ensures { self.new ≡ utctl_written self.old swrst value }
     {
-        self.unused7 = has(value, UNUSED7);
-        self.ckpl = has(value, CKPL);
-        self.ssel1 = has(value, SSEL1);
-        self.ssel0 = has(value, SSEL0);
-        self.urxse = has(value, URXSE);
-        self.txwake = !swrst && has(value, TXWAKE);
-        self.unused1 = has(value, UNUSED1);
+        let [unused7, ckpl, ssel1, ssel0, urxse, txwake, unused1, _] = bits(value);
+        *self = Transmit {
+            unused7,
+            ckpl,
+            ssel1,
+            ssel0,
+            urxse,
+            txwake: !swrst && txwake,
+            unused1,
+            utxbuf: self.utxbuf,
+        };
     }
 
     // UTCTL as it is read, with TXEPT as it stands.

@@ -1,14 +1,9 @@
-use Rattle.std.proofs.Common.{rules}
+use Rattle.std.proofs.Common.{option_map}
 use Rattle.chip.specs.Pairs.{ends_of}
-use Rattle.chip.specs.Chips.{running}
 use Rattle.chip.proofs.Tells.{tells}
 use Rattle.chip.proofs.registers.Chip.interrupts.Goals as goal
 
-pub returns : goal.returns
-returns c =
+pub returns-clause-tells : goal.returns-clause-tells
+returns-clause-tells c =
     let k = c.args.self.now in
-    record {
-      urxifg = search rules;
-      utxifg = search rules;
-      tells = tells k.mode k.transmit k.receive k.rate (running k.swrst (ends_of k.ends));
-    }
+    tells k.mode k.transmit k.receive k.rate (option_map ends_of k.ends)
