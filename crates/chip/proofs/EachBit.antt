@@ -1,7 +1,7 @@
 -- What holds of a byte whatever its bits are, computed over all of them.
-use Rattle.std.proofs.Common.{◌≡◌, ℕ, Bool, true, false, ◌&&◌, eqb, List, [], ◌∷◌, length, filter, fold, bit_or, slice_index_or, sym, refl, arith}
+use Rattle.std.proofs.Common.{◌≡◌, ℕ, Bool, true, false, ◌&&◌, eqb, List, [], ◌∷◌, length, filter, fold, bit_or, slice_index_or, refl, arith}
 use Rattle.std.specs.List.{zip}
-use Rattle.std.proofs.lemmas.Bool.{eqb-true}
+use Rattle.std.proofs.lemmas.Bool.{eqb-true, and_parts}
 use Rattle.chip.specs.Bytes.{byte}
 
 -- a test holds of both
@@ -9,28 +9,8 @@ abbrev pub either : (Bool → Bool) → Bool
 either p = p true && p false
 
 at_both : (p : Bool → Bool) → either p ≡ true → (b : Bool) → p b ≡ true
-at_both p all true = first (p true) (p false) all
-  where
-    first : (x y : Bool) → x && y ≡ true → x ≡ true
-    first true y h = refl
-    first false y h = h
-at_both p all false = second (p true) (p false) all
-  where
-    second : (x y : Bool) → x && y ≡ true → y ≡ true
-    second true y h = h
-    second false y h = absurd (let z : ◌≡◌ {A = ℕ} 0 1 = cc in omega arith)
-
-abbrev pub same : Bool → Bool → Bool
-same true true = true
-same true false = false
-same false true = false
-same false false = true
-
-pub same_is : (x y : Bool) → same x y ≡ true → x ≡ y
-same_is true true h = refl
-same_is true false h = sym h
-same_is false true h = h
-same_is false false h = refl
+at_both p all true = (and_parts (p true) (p false) all).0
+at_both p all false = (and_parts (p true) (p false) all).1
 
 -- a test of eight bits holds of all of them
 abbrev pub Test : Type 0

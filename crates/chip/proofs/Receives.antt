@@ -1,5 +1,6 @@
 -- What is loaded into URXBUF is what a bare receiver takes down.
 use Rattle.std.proofs.Common.{◌≡◌, ℕ, ◌≤◌, Bool, true, false, cond, not, ◌&&◌, ◌||◌, eqb, List, [], ◌∷◌, ◌++◌, length, Some, Option, sym, refl, ap, ◌∙◌, subst, ap₂, arith}
+use Rattle.std.proofs.Math.Bool.{or-false}
 use Rattle.line.specs.declared.level.Level.{Level}
 use Rattle.ends.specs.Sender.{empty, after_send}
 use Rattle.ends.specs.Receiver.{ReceiverState, Entry, hears, after_clock as heard_clock, without_oldest}
@@ -80,10 +81,6 @@ module _ (m : Mode) (t : Transmit) (q : Rate) where
       read_more l ls r v w (next e l) off (λ s ready. read_all ls s v w (next e l) ready) (arrivals e m.listen l) (one_at_most e.receiver (seen e m.listen l))
       ∙ sym (ap (admitted m r) (entries_more e l ls))
 
-  or_no : (b : Bool) → b ≡ b || false
-  or_no true = refl
-  or_no false = refl
-
   -- an entry more, whose byte is loaded where it is let through
   load_entry : (r out : Receive) (y : Entry) (a : List ℕ) → Loaded (taken m r y) out a → Loaded r out (cond (let_through m r y) (byte_in m y ∷ a) a)
   load_entry r out y a more = go (let_through m r y) more.buffer more.flag more.overrun
@@ -102,8 +99,8 @@ module _ (m : Mode) (t : Transmit) (q : Rate) where
       go true buffer flag over = record { buffer = buffer; flag = flag ∙ flags r.urxifg; overrun = over ∙ overrun r.oe r.urxifg }
       go false buffer flag over = record {
         buffer = buffer;
-        flag = flag ∙ ap (λ (i : Bool). i || not (empty a)) (sym (or_no r.urxifg));
-        overrun = over ∙ ap₂ {C = Bool} (λ o i. o || overruns i a) (sym (or_no r.oe)) (sym (or_no r.urxifg));
+        flag = flag ∙ ap (λ (i : Bool). i || not (empty a)) (or-false r.urxifg);
+        overrun = over ∙ ap₂ {C = Bool} (λ o i. o || overruns i a) (or-false r.oe) (or-false r.urxifg);
       }
 
   load_more : (r out : Receive) (rest : List Entry) (es : List Entry) → length es ≤ 1 → Loaded (all_taken m r es) out (admitted m (all_taken m r es) rest)
@@ -115,7 +112,7 @@ module _ (m : Mode) (t : Transmit) (q : Rate) where
 
   pub load_all : (ls : List Level) (r : Receive) (u x : Bool) (e : EndsState) → Loaded r (after_clocks (chip r u x e) ls).receive (admitted m r (entries e ls))
   load_all [] r u x e =
-      subst (λ (es : List Entry). Loaded r r (admitted m r es)) (sym (entries_none e)) (record { buffer = refl; flag = or_no r.urxifg; overrun = or_no r.oe })
+      subst (λ (es : List Entry). Loaded r r (admitted m r es)) (sym (entries_none e)) (record { buffer = refl; flag = sym (or-false r.urxifg); overrun = sym (or-false r.oe) })
   load_all (l ∷ ls) r u x e =
       let v : Bool = u || leaves e.sender in
       let w : Bool = x || done (after_send e.sender) in

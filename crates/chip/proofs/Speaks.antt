@@ -1,6 +1,7 @@
 -- The levels on UTXD are those of a bare sender.
-use Rattle.std.proofs.Common.{◌≡◌, ℕ, ◌^◌, ◌<◌, ◌≤◌, Bool, true, false, cond, ◌&&◌, ◌||◌, eqb, List, [], ◌∷◌, ◌++◌, length, Some, None, Ok, Err, Option, option_map, Result, sym, refl, ap, ◌∙◌, subst, ap₂, arith}
+use Rattle.std.proofs.Common.{◌≡◌, ℕ, ◌^◌, ◌<◌, ◌≤◌, Bool, true, false, cond, ◌&&◌, ◌||◌, eqb, List, [], ◌∷◌, ◌++◌, length, Some, None, Ok, Err, Option, option_map, Result, sym, refl, ap, ◌∙◌, subst, ap₂}
 use Rattle.std.proofs.lemmas.Bool.{eqb-true}
+use Rattle.std.proofs.Math.Bool.{and-true}
 use Rattle.line.specs.declared.level.Level.{Level}
 use Rattle.line.specs.declared.refusal.Refusal.{Refusal}
 use Rattle.line.specs.declared.refusal.Refusal.TheVariants.{Closed, Full}
@@ -50,7 +51,7 @@ module _ (c : ChipState) (e : EndsState) (is : c.ends ≡ Some e) (a v : ℕ) wh
   not_full at off = simp (at, off, is)
 
 apart : (x y : Result Unit Refusal) (r : Refusal) → x ≡ y → x ≡ Ok tt → y ≡ Err r → ⊥
-apart x y r same p q = let z : ◌≡◌ {A = ℕ} 0 1 = cc in omega arith
+apart x y r same p q = cc
 
 module _ (c : ChipState) (e : EndsState) (is : c.ends ≡ Some e) (ok : Sound c.mode c.utxifg e.sender) (a v : ℕ) (off : resets a v ≡ false) (xs : List Act)
     (on : (d : ChipState) (f : EndsState) → d.ends ≡ Some f → Sound d.mode d.utxifg f.sender → Bare f.sender d xs) where
@@ -106,13 +107,9 @@ module _ (c : ChipState) (e : EndsState) (is : c.ends ≡ Some e) (ok : Sound c.
   go (Ok y) answer false at0 false at7 = on (written c a v) e (simp (at0, at7, is)) (record {
     wide = ok.wide ∙ ap (λ (m : Mode). width (format_of m)) (sym (same_mode at0));
     one = ok.one;
-    room = simp (at0, at7) (still c.utxifg) ∙ ok.room;
+    room = simp (at0, at7) (and-true c.utxifg) ∙ ok.room;
     few = ok.few;
   })
-    where
-      still : (b : Bool) → b && true ≡ b
-      still true = refl
-      still false = refl
 
   pub write_speaks : Bare e.sender c (writes a v ∷ xs)
   write_speaks = go (write_answer c a v) refl (eqb a 0x70) refl (eqb a 0x77) refl

@@ -1,7 +1,7 @@
 -- A byte that is stored is read back.
-use Rattle.std.proofs.Common.{◌≡◌, ℕ, zero, suc, ◌<◌, ◌≤◌, Bool, true, false, cond, not, ◌&&◌, ◌||◌, eqb, ◌⊎◌, is_some, Some, None, Ok, Err, Result, refl, ap, ◌∙◌, subst, inl, inr, ⊎_elim, arith}
+use Rattle.std.proofs.Common.{◌≡◌, ℕ, ◌<◌, ◌≤◌, Bool, true, false, cond, not, ◌&&◌, ◌||◌, eqb, ◌⊎◌, is_some, Some, None, Ok, Err, Result, refl, ap, ◌∙◌, subst, inl, inr, arith}
 use lib.Bits.{bit_and, bit_or}
-use Rattle.std.proofs.lemmas.Bool.{eqb-true, and_parts, cases_lt}
+use Rattle.std.proofs.lemmas.Bool.{eqb-true, cases_lt, agree_below, agree_below_at}
 use Rattle.line.specs.declared.refusal.Refusal.{Refusal}
 use Rattle.line.specs.declared.refusal.Refusal.TheVariants.{Closed}
 use Rattle.ends.specs.Sender.{accepted}
@@ -12,27 +12,19 @@ use Rattle.chip.specs.Transmitting.{transmit_byte, utctl_written}
 use Rattle.chip.specs.Chips.{ChipState, begun, released, write_answer, written, after_write, read_answer}
 use Rattle.chip.specs.Laws.{ReadBack}
 
--- a test that holds of every number below n
-abbrev all_below : ℕ → (ℕ → Bool) → Bool
-all_below zero p = true
-all_below (suc n) p = p n && all_below n p
+-- two numbers that go with each byte are the same, computed over all bytes
+of_all : (f g : ℕ → ℕ) → agree_below (λ k. eqb (f k) (g k)) (λ k. true) 256 ≡ true → (v : ℕ) → v < 256 → f v ≡ g v
+of_all f g all v small = eqb-true _ _ (agree_below_at (λ k. eqb (f k) (g k)) (λ k. true) 256 v all small)
 
-at_below : (n : ℕ) (p : ℕ → Bool) → all_below n p ≡ true → (k : ℕ) → k < n → p k ≡ true
-at_below zero p all k h = absurd (omega arith)
-at_below (suc n) p all k h =
-    let parts = and_parts (p n) (all_below n p) all in
-    ⊎_elim (λ (l : k < n). at_below n p parts.1 k l) (λ (l : n ≤ k). subst (λ (i : ℕ). p i ≡ true) (omega arith) parts.0) (cases_lt k n)
-
--- computed over all bytes
 mode_back : (v : ℕ) → v < 256 → mode_byte (mode_of v) (has v 0x01) ≡ v
-mode_back v small = eqb-true _ _ (at_below 256 (λ k. eqb (mode_byte (mode_of k) (has k 0x01)) k) refl v small)
+mode_back v small = of_all (λ k. mode_byte (mode_of k) (has k 0x01)) (λ k. k) refl v small
 
 transmit_back : (t : Transmit) (running txept : Bool) (v : ℕ) → v < 256
     → transmit_byte (utctl_written t (not running) v) (txept && true) ≡ bit_or (bit_and v (cond running 0xfe 0xfa)) (bit txept 0x01)
-transmit_back t true true v small = eqb-true _ _ (at_below 256 (λ k. eqb (transmit_byte (utctl_written t false k) true) (bit_or (bit_and k 0xfe) 0x01)) refl v small)
-transmit_back t true false v small = eqb-true _ _ (at_below 256 (λ k. eqb (transmit_byte (utctl_written t false k) false) (bit_or (bit_and k 0xfe) 0)) refl v small)
-transmit_back t false true v small = eqb-true _ _ (at_below 256 (λ k. eqb (transmit_byte (utctl_written t true k) true) (bit_or (bit_and k 0xfa) 0x01)) refl v small)
-transmit_back t false false v small = eqb-true _ _ (at_below 256 (λ k. eqb (transmit_byte (utctl_written t true k) false) (bit_or (bit_and k 0xfa) 0)) refl v small)
+transmit_back t true true v small = of_all (λ k. transmit_byte (utctl_written t false k) true) (λ k. bit_or (bit_and k 0xfe) 0x01) refl v small
+transmit_back t true false v small = of_all (λ k. transmit_byte (utctl_written t false k) false) (λ k. bit_or (bit_and k 0xfe) 0) refl v small
+transmit_back t false true v small = of_all (λ k. transmit_byte (utctl_written t true k) true) (λ k. bit_or (bit_and k 0xfa) 0x01) refl v small
+transmit_back t false false v small = of_all (λ k. transmit_byte (utctl_written t true k) false) (λ k. bit_or (bit_and k 0xfa) 0) refl v small
 
 module _ (c : ChipState) (v : ℕ) (small : v < 256) where
   -- what a register answers after a write that is not refused

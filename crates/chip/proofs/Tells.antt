@@ -1,5 +1,7 @@
 -- What the flags tell.
-use Rattle.std.proofs.Common.{◌≡◌, ℕ, Bool, ◌&&◌, ◌||◌, List, [], ◌∷◌, MatchBool, Option, sym, refl, ◌∙◌, subst, arith}
+use Rattle.std.proofs.Common.{◌≡◌, Bool, ◌&&◌, ◌||◌, List, [], ◌∷◌, MatchBool, Option, sym, refl, ◌∙◌, subst}
+use Rattle.std.proofs.Math.Bool.{beq}
+use Rattle.std.specs.Cmp.{booleans_Decides}
 use Rattle.ends.specs.Sender.{empty}
 use Rattle.chip.specs.declared.mode.Mode.{Mode}
 use Rattle.chip.specs.declared.transmit.Transmit.{Transmit}
@@ -10,27 +12,24 @@ use Rattle.chip.specs.Receiving.{any_error}
 use Rattle.chip.specs.Pairs.{EndsState}
 use Rattle.chip.specs.Chips.{holding, waiting, left}
 use Rattle.chip.specs.Laws.{Tells}
-use Rattle.chip.proofs.EachBit.{same, same_is, at_eight}
-
-something : {T : Type 0} (x : T) (xs : List T) → x ∷ xs ≡ [] → ⊥
-something x xs is = let z : ◌≡◌ {A = ℕ} 0 1 = cc in omega arith
+use Rattle.chip.proofs.EachBit.{at_eight}
 
 empty_tells : {T : Type 0} (xs : List T) → MatchBool (empty xs) (xs ≡ []) (xs ≡ [] → ⊥)
 empty_tells [] = refl
-empty_tells (x ∷ xs) = something x xs
+empty_tells (x ∷ xs) = λ is. cc
 
 both_tell : {S T : Type 0} (xs : List S) (ys : List T) → MatchBool (empty xs && empty ys) ((xs ≡ []) × (ys ≡ [])) ((xs ≡ []) × (ys ≡ []) → ⊥)
 both_tell [] [] = (refl, refl)
-both_tell [] (y ∷ ys) = λ p. something y ys p.1
-both_tell (x ∷ xs) ys = λ p. something x xs p.0
+both_tell [] (y ∷ ys) = λ p. cc (p.1)
+both_tell (x ∷ xs) ys = λ p. cc (p.0)
 
 -- bit 0 of a byte, and whether any of the four highest is set: computed over all bytes
 pub lowest : (a b c d e f g h : Bool) → has (byte a b c d e f g h) 0x01 ≡ h
-lowest a b c d e f g h = same_is _ _ (at_eight (λ a b c d e f g h. same (has (byte a b c d e f g h) 0x01) h) refl a b c d e f g h)
+lowest a b c d e f g h = (booleans_Decides _ _).0 (at_eight (λ a b c d e f g h. beq (has (byte a b c d e f g h) 0x01) h) refl a b c d e f g h)
 
 highest : (a b c d e f g h : Bool) → a || (b || (c || d))
     ≡ has (byte a b c d e f g h) 0x80 || (has (byte a b c d e f g h) 0x40 || (has (byte a b c d e f g h) 0x20 || has (byte a b c d e f g h) 0x10))
-highest a b c d e f g h = same_is _ _ (at_eight (λ a b c d e f g h. same (a || (b || (c || d)))
+highest a b c d e f g h = (booleans_Decides _ _).0 (at_eight (λ a b c d e f g h. beq (a || (b || (c || d)))
     (has (byte a b c d e f g h) 0x80 || (has (byte a b c d e f g h) 0x40 || (has (byte a b c d e f g h) 0x20 || has (byte a b c d e f g h) 0x10)))) refl a b c d e f g h)
 
 pub tells : (m : Mode) (t : Transmit) (r : Receive) (q : Rate) (e : Option EndsState) → Tells (holding m t r q e)

@@ -28,7 +28,7 @@ module _ (s : SenderState) (c : ℕ) (small : c < 2 ^ width s.format) (room : em
     where
       go : (w : List ℕ) → empty w ≡ true → cond {A = Result Unit Refusal} (leb (2 ^ width s.format) c) (Err TooWide) (cond (eqb (length w) s.capacity) (Err Full) (Ok tt)) ≡ Ok tt
       go [] none = simp (one, lt-leb (2 ^ width s.format) c small)
-      go (x ∷ w) none = absurd (let z : ◌≡◌ {A = ℕ} 0 1 = cc in omega arith)
+      go (x ∷ w) none = cc
 
   then_holds : after_load s c ≡ sender_holding s s.left (s.waiting ++ (c ∷ []))
   then_holds = ap (λ (x : Result Unit Refusal). cond (accepted x) (sender_holding s s.left (s.waiting ++ (c ∷ []))) s) load_taken
@@ -51,4 +51,4 @@ module _ (s : SenderState) (c : ℕ) (small : c < 2 ^ width s.format) (room : em
     where
       joined : (w : List ℕ) → empty w ≡ true → length (w ++ (c ∷ [])) ≤ 1
       joined [] none = omega arith
-      joined (x ∷ w) none = absurd (let z : ◌≡◌ {A = ℕ} 0 1 = cc in omega arith)
+      joined (x ∷ w) none = cc

@@ -1,5 +1,5 @@
 -- What firmware and the line do to a chip, one act after the other.
-use Rattle.std.specs.Prelude.{◌≡◌, ℕ, false, cond, ◌&&◌, List, [], ◌∷◌, ◌++◌, Ok, ◌==◌}
+use Rattle.std.specs.Prelude.{◌≡◌, ℕ, false, if◌then◌else◌, ◌&&◌, List, [], ◌∷◌, ◌++◌, Ok, ◌==◌}
 use Rattle.line.specs.declared.level.Level.{Level}
 use Rattle.ends.specs.Sender.{SenderState, accepted, load_answer, after_load, sent, after_send}
 use Rattle.chip.specs.Modes.{character_of}
@@ -49,7 +49,7 @@ AllTaken s (ticks ∷ xs) = AllTaken (after_send s) xs
 
 -- the acts as a bare sender would have them: the characters that UTXBUF takes, and the clocks
 abbrev pub loading : ChipState → ℕ → ℕ → List Step
-loading c a v = cond (a == 0x77 && accepted (write_answer c a v)) (loads (character_of c.mode c.transmit.txwake v) ∷ []) []
+loading c a v = if a == 0x77 && accepted (write_answer c a v) then loads (character_of c.mode c.transmit.txwake v) ∷ [] else []
 
 abbrev pub steps : ChipState → List Act → List Step
 steps c [] = []

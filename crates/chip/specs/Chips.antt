@@ -1,5 +1,5 @@
 -- The chip: what it holds, and what a write, a read and a clock do.
-use Rattle.std.specs.Prelude.{ℕ, ◌+◌, ◌*◌, ◌%◌, Bool, true, false, cond, not, ◌&&◌, ◌||◌, List, [], is_some, Some, None, Ok, Err, Option, Result, option_map, ◌==◌, nat_le, nat_lt}
+use Rattle.std.specs.Prelude.{ℕ, ◌+◌, ◌*◌, ◌%◌, Bool, true, false, if◌then◌else◌, not, ◌&&◌, ◌||◌, List, [], is_some, Some, None, Ok, Err, Option, Result, option_map, ◌==◌, nat_le, nat_lt}
 use Rattle.line.specs.declared.level.Level.{Level}
 use Rattle.line.specs.declared.level.Level.TheVariants.{Mark}
 use Rattle.line.specs.declared.refusal.Refusal.{Refusal}
@@ -101,27 +101,27 @@ is_register a = nat_le 0x70 a && nat_le a 0x77
 
 abbrev pub write_answer : ChipState → ℕ → ℕ → Result Unit Refusal
 write_answer c a v =
-    cond (not (is_register a)) (Err NoSuchRegister)
-    (cond (releases c a v && has v 0x04) (Err SyncSet)
-    (cond (releases c a v && nat_lt (divider c.rate) 3) (Err OutOfRange)
-    (cond (closed c a v) (Err Closed)
-    (cond (a == 0x77 && not c.utxifg) (Err Full) (Ok tt)))))
+    if not (is_register a) then Err NoSuchRegister
+    else if releases c a v && has v 0x04 then Err SyncSet
+    else if releases c a v && nat_lt (divider c.rate) 3 then Err OutOfRange
+    else if closed c a v then Err Closed
+    else if a == 0x77 && not c.utxifg then Err Full else Ok tt
 
 abbrev pub rate_written : Rate → ℕ → ℕ → Rate
 rate_written r a v = record {
-  modulator = cond (a == 0x73) v r.modulator;
-  low = cond (a == 0x74) v r.low;
-  high = cond (a == 0x75) v r.high;
+  modulator = if a == 0x73 then v else r.modulator;
+  low = if a == 0x74 then v else r.low;
+  high = if a == 0x75 then v else r.high;
 }
 
 abbrev pub transmit_written : ChipState → ℕ → ℕ → Transmit
 transmit_written c a v =
-    cond (resets a v) (unwoken c.transmit)
-    (cond (a == 0x71) (utctl_written c.transmit (not (released c)) v)
-    (cond (a == 0x77) (buffer_written c.transmit (v % values c.mode)) c.transmit))
+    if resets a v then unwoken c.transmit
+    else if a == 0x71 then utctl_written c.transmit (not (released c)) v
+    else if a == 0x77 then buffer_written c.transmit (v % values c.mode) else c.transmit
 
 abbrev pub receive_written : ChipState → ℕ → ℕ → Receive
-receive_written c a v = cond (resets a v) (cleared c.receive) (cond (a == 0x72) (urctl_written c.receive v) c.receive)
+receive_written c a v = if resets a v then cleared c.receive else if a == 0x72 then urctl_written c.receive v else c.receive
 
 abbrev pub loaded : Option EndsState → ℕ → Option EndsState
 loaded None c = None
@@ -129,14 +129,14 @@ loaded (Some e) c = Some (ends_loaded e c)
 
 abbrev pub ends_written : ChipState → ℕ → ℕ → Option EndsState
 ends_written c a v =
-    cond (resets a v) None
-    (cond (a == 0x70) (Some (begun (mode_of v) c.rate))
-    (cond (a == 0x77) (loaded c.ends (character_of c.mode c.transmit.txwake v)) c.ends))
+    if resets a v then None
+    else if a == 0x70 then Some (begun (mode_of v) c.rate)
+    else if a == 0x77 then loaded c.ends (character_of c.mode c.transmit.txwake v) else c.ends
 
 -- after a write that is not refused
 abbrev pub written : ChipState → ℕ → ℕ → ChipState
 written c a v = record {
-  mode = cond (a == 0x70) (mode_of v) c.mode;
+  mode = if a == 0x70 then mode_of v else c.mode;
   transmit = transmit_written c a v;
   receive = receive_written c a v;
   rate = rate_written c.rate a v;
@@ -146,25 +146,25 @@ written c a v = record {
 }
 
 abbrev pub after_write : ChipState → ℕ → ℕ → ChipState
-after_write c a v = cond (accepted (write_answer c a v)) (written c a v) c
+after_write c a v = if accepted (write_answer c a v) then written c a v else c
 
 abbrev pub read_answer : ChipState → ℕ → Result ℕ Refusal
 read_answer c a =
-    cond (a == 0x70) (Ok (mode_byte c.mode (not (released c))))
-    (cond (a == 0x71) (Ok (transmit_byte c.transmit c.txept))
-    (cond (a == 0x72) (Ok (receive_byte c.receive))
-    (cond (a == 0x73) (Ok c.rate.modulator)
-    (cond (a == 0x74) (Ok c.rate.low)
-    (cond (a == 0x75) (Ok c.rate.high)
-    (cond (a == 0x76) (Ok c.receive.urxbuf)
-    (cond (a == 0x77) (Ok c.transmit.utxbuf) (Err NoSuchRegister))))))))
+    if a == 0x70 then Ok (mode_byte c.mode (not (released c)))
+    else if a == 0x71 then Ok (transmit_byte c.transmit c.txept)
+    else if a == 0x72 then Ok (receive_byte c.receive)
+    else if a == 0x73 then Ok c.rate.modulator
+    else if a == 0x74 then Ok c.rate.low
+    else if a == 0x75 then Ok c.rate.high
+    else if a == 0x76 then Ok c.receive.urxbuf
+    else if a == 0x77 then Ok c.transmit.utxbuf else Err NoSuchRegister
 
 -- only a read of URXBUF changes anything
 abbrev pub after_read : ChipState → ℕ → ChipState
 after_read c a = record {
   mode = c.mode;
   transmit = c.transmit;
-  receive = cond (a == 0x76) (cleared c.receive) c.receive;
+  receive = if a == 0x76 then cleared c.receive else c.receive;
   rate = c.rate;
   utxifg = c.utxifg;
   txept = c.txept;

@@ -1,5 +1,5 @@
 -- Laws of the chip, over whole runs of acts and clocks.
-use Rattle.std.specs.Prelude.{◌≡◌, ℕ, ◌≤◌, Bool, true, false, cond, not, ◌||◌, List, [], ◌∷◌, length, Some, Ok, MatchBool, MatchResult, bit_and, bit_or}
+use Rattle.std.specs.Prelude.{◌≡◌, ℕ, ◌≤◌, Bool, true, false, if◌then◌else◌, not, ◌||◌, List, [], ◌∷◌, length, Some, Ok, MatchBool, MatchResult, bit_and, bit_or}
 use Rattle.line.specs.declared.level.Level.{Level}
 use Rattle.ends.specs.Sender.{empty}
 use Rattle.ends.specs.Receiver.{Entry}
@@ -30,7 +30,7 @@ pub record Tells (c : ChipState) : Type 0 where
 -- A byte that is written and not refused is read back, in UTCTL but for TXEPT and, in reset, TXWake.
 pub record ReadBack (c : ChipState) (v : ℕ) : Type 0 where
   pub uctl : write_answer c 0x70 v ≡ Ok tt → read_answer (after_write c 0x70 v) 0x70 ≡ Ok v
-  pub utctl : read_answer (after_write c 0x71 v) 0x71 ≡ Ok (bit_or (bit_and v (cond (released c) 0xfe 0xfa)) (bit c.txept 0x01))
+  pub utctl : read_answer (after_write c 0x71 v) 0x71 ≡ Ok (bit_or (bit_and v (if released c then 0xfe else 0xfa)) (bit c.txept 0x01))
   pub rate : (a : ℕ) → 0x73 ≤ a → a ≤ 0x75 → write_answer c a v ≡ Ok tt → read_answer (after_write c a v) a ≡ Ok v
 
 -- From a release to the next reset, whatever else is done, the levels on UTXD are those that a bare sender answers for the same characters and
@@ -41,19 +41,19 @@ Speaks c = (e : EndsState) → c.ends ≡ Some e → (acts : List Act) → NoRes
 
 -- the levels that the receiver sees: with Listen those on UTXD
 abbrev pub seen_levels : EndsState → Bool → List Level → List Level
-seen_levels e listen ls = cond listen (spoken e.sender (length ls)) ls
+seen_levels e listen ls = if listen then spoken e.sender (length ls) else ls
 
 -- the bytes of the entries that the enables let through
 abbrev pub admitted : Mode → Receive → List Entry → List ℕ
 admitted m r [] = []
-admitted m r (x ∷ es) = cond (let_through m r x) (byte_in m x ∷ admitted m r es) (admitted m r es)
+admitted m r (x ∷ es) = if let_through m r x then byte_in m x ∷ admitted m r es else admitted m r es
 
 -- what firmware reads that looks at URXIFG after each clock, and reads URXBUF where it is 1
 abbrev pub polled : ChipState → List Level → List ℕ
 polled c [] = []
 polled c (l ∷ ls) =
     let d : ChipState = after_clock c l in
-    cond d.receive.urxifg (d.receive.urxbuf ∷ polled (after_read d 0x76) ls) (polled d ls)
+    if d.receive.urxifg then d.receive.urxbuf ∷ polled (after_read d 0x76) ls else polled d ls
 
 abbrev pub after_clocks : ChipState → List Level → ChipState
 after_clocks c [] = c

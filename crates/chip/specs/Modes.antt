@@ -1,5 +1,5 @@
 -- UCTL: PENA PEV SP CHAR Listen SYNC MM SWRST, from bit 7 to bit 0. All but SWRST make the mode.
-use Rattle.std.specs.Prelude.{ℕ, ◌+◌, ◌%◌, Bool, true, false, cond, ◌&&◌}
+use Rattle.std.specs.Prelude.{ℕ, ◌+◌, ◌%◌, Bool, true, false, if◌then◌else◌, ◌&&◌}
 use Rattle.line.specs.declared.format.DataBits.TheVariants.{Seven, Eight}
 use Rattle.line.specs.declared.format.Parity.{Parity}
 use Rattle.line.specs.declared.format.Parity.TheVariants.{Absent, Odd, Even}
@@ -31,16 +31,16 @@ parity_of true true = Even
 -- the format that counts from release on: 8 data bits where CHAR is set, an address bit where MM is
 abbrev pub format_of : Mode → Format
 format_of m = record {
-  size = cond m.chars Eight Seven;
+  size = if m.chars then Eight else Seven;
   address = m.mm;
   parity = parity_of m.pena m.pev;
-  stops = cond m.sp Two One;
+  stops = if m.sp then Two else One;
 }
 
 -- how many values the data bits of a character have
 abbrev pub values : Mode → ℕ
-values m = cond m.chars 256 128
+values m = if m.chars then 256 else 128
 
 -- the character that a byte becomes: cut to the data bits, with TXWake as the address bit where MM is set
 abbrev pub character_of : Mode → Bool → ℕ → ℕ
-character_of m wake v = v % values m + cond (m.mm && wake) (values m) 0
+character_of m wake v = v % values m + (if m.mm && wake then values m else 0)

@@ -1,5 +1,5 @@
 -- The two ends of a chip, each of whose entries is read as it arrives.
-use Rattle.std.specs.Prelude.{ℕ, Bool, cond, List}
+use Rattle.std.specs.Prelude.{ℕ, Bool, if◌then◌else◌, List}
 use Rattle.line.specs.declared.level.Level.{Level}
 use Rattle.ends.specs.Times.{Times}
 use Rattle.ends.specs.Sender.{SenderState, sent, after_send, after_load}
@@ -21,7 +21,7 @@ resting t = record { sender = sender_resting t; receiver = receiver_resting t }
 
 -- the level that the receiver sees: with Listen that on UTXD
 abbrev pub seen : EndsState → Bool → Level → Level
-seen e listen l = cond listen (sent e.sender) l
+seen e listen l = if listen then sent e.sender else l
 
 -- what arrives at a clock
 abbrev pub arrivals : EndsState → Bool → Level → List Entry

@@ -1,5 +1,5 @@
 -- The receive side: URCTL, URXBUF and URXIFG. URCTL has FE PE OE BRK URXEIE URXWIE RXWake RXERR, from bit 7 to bit 0.
-use Rattle.std.specs.Prelude.{ℕ, ◌%◌, Bool, false, cond, not, ◌&&◌, ◌||◌, List, [], ◌∷◌, ◌==◌, nat_le}
+use Rattle.std.specs.Prelude.{ℕ, ◌%◌, Bool, false, if◌then◌else◌, not, ◌&&◌, ◌||◌, List, [], ◌∷◌, ◌==◌, nat_le}
 use Rattle.ends.specs.Receiver.{Entry}
 use Rattle.chip.specs.declared.mode.Mode.{Mode}
 use Rattle.chip.specs.declared.receive.Receive.{Receive}
@@ -68,9 +68,9 @@ taken m r e =
       brk = r.brk || (seen && has e.1 8);
       urxeie = r.urxeie;
       urxwie = r.urxwie;
-      rxwake = cond (loaded && m.mm) (address_bit m e) r.rxwake;
+      rxwake = if loaded && m.mm then address_bit m e else r.rxwake;
       urxifg = r.urxifg || loaded;
-      urxbuf = cond loaded (byte_in m e) r.urxbuf;
+      urxbuf = if loaded then byte_in m e else r.urxbuf;
     }
 
 abbrev pub all_taken : Mode → Receive → List Entry → Receive

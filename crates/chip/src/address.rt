@@ -1,4 +1,4 @@
-// The addresses of the registers.
+// The addresses of the registers. Numbers and no enum: firmware passes numbers, and the rules of a write speak of ranges of them.
 pub const UCTL: u16 = 0x70;
 
 pub const UTCTL: u16 = 0x71;

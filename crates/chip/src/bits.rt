@@ -31,7 +31,7 @@ fn joined(masks: &[u8], bits: &[bool]) -> u8
         .fold(0, |byte, (mask, _)| byte | *mask)
 }
 
-// The byte that has these bits, from bit 7 to bit 0.
+// The byte that has these bits, from bit 7 to bit 0. Each register lists its own: nothing takes any register, so a trait over them would have no user.
 pub(crate) fn byte(bits: [bool; 8]) -> u8
     ensures { result ≡ byte (slice_index_or bits 0 false) (slice_index_or bits 1 false) (slice_index_or bits 2 false) (slice_index_or bits 3 false) (slice_index_or bits 4 false) (slice_index_or bits 5 false) (slice_index_or bits 6 false) (slice_index_or bits 7 false) }
 {

@@ -24,6 +24,7 @@ pub struct Receive {
     pub rxwake: bool,
     // the byte in URXBUF has not been read
     pub urxifg: bool,
+    // no Option, since it keeps its byte when it is read
     pub urxbuf: u8,
 }
 

@@ -11,6 +11,7 @@ use super::rate::Rate;
 use super::receive::Receive;
 use super::transmit::Transmit;
 
+// No Model: the chip is copied, so one would have to give its fields back, and what the ends mean has less than their tables.
 #[derive(Clone, Copy)]
 pub struct Chip {
     pub(crate) mode: Mode,

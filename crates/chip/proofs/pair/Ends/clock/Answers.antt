@@ -1,24 +1,19 @@
 -- What arrives at a clock is read at once.
-use Rattle.std.proofs.Common.{◌≡◌, Bool, cond, sym, ap, ◌∙◌, ap₂}
+use Rattle.std.proofs.Common.{◌≡◌, ap, ◌∙◌}
 use Rattle.std.specs.Result.{result_ok}
 use Rattle.std.specs.Option.{option_to_list}
 use Rattle.line.specs.declared.level.Level.{Level}
-use Rattle.ends.specs.Sender.{sent}
-use Rattle.ends.specs.Receiver.{ReceiverState, oldest, after_clock, after_read}
+use Rattle.ends.specs.Receiver.{ReceiverState, oldest, after_clock}
 use Rattle.ends.proofs.Reading.{read_one}
-use Rattle.chip.specs.Pairs.{EndsState, ends_of, seen}
+use Rattle.chip.specs.Pairs.{ends_of, seen}
 use Rattle.chip.proofs.pair.Ends.clock.Goals as goal
 use Rattle.chip.proofs.pair.Ends.clock.Goals.{then-listen, else-listen}
 
-pub returns : goal.returns
-returns c =
+pub returns-clause-arrived : goal.returns-clause-arrived
+returns-clause-arrived c =
     let e = ends_of c.args.self.now in
     let l : Level = seen e c.args.listen c.args.level in
-    let is : c.if-listen.seen ≡ l = elim c.if-listen.branch [ then-listen w ↦ w.seen-is ∙ c.clock-utxd.ensures.level ∙ sym (ap (λ (b : Bool). cond b (sent e.sender) c.args.level) w.if-listen.true) | else-listen w ↦ w.seen-is ∙ sym (ap (λ (b : Bool). cond b (sent e.sender) c.args.level) w.if-listen.false) ] in
+    let is : c.if-listen.seen ≡ l = elim c.if-listen.branch [ then-listen w ↦ rw (w.seen-is, w.if-listen.true) c.clock-utxd.ensures.level | else-listen w ↦ rw (w.seen-is, w.if-listen.false) ] in
     let after = c.clock.ensures ∙ ap (after_clock e.receiver) is in
-    record {
-      level = c.clock-utxd.ensures.level;
-      arrived = ap option_to_list (c.ok.ensures.value ∙ ap result_ok c.read.ensures.answer)
-          ∙ ap (λ (r : ReceiverState). option_to_list (result_ok (oldest r.unread))) after ∙ read_one e.receiver c.args.self.now.read l;
-      state = ap₂ {C = EndsState} (λ s r. record { sender = s; receiver = r }) c.clock-utxd.ensures.state (c.read.ensures.state ∙ ap after_read after);
-    }
+    ap option_to_list (c.ok.ensures.value ∙ ap result_ok c.read.ensures.answer)
+    ∙ ap (λ (r : ReceiverState). option_to_list (result_ok (oldest r.unread))) after ∙ read_one e.receiver c.args.self.now.read l
