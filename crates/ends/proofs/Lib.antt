@@ -6,3 +6,4 @@ pub mod Speaking
 pub mod Arriving
 pub mod Reading
 pub mod Sampling
+pub mod Tables
