@@ -1,7 +1,10 @@
 // The names of formats, as 8N1: data bits, an A where there is an address bit, parity, stop bits.
 ghost use Rattle.std.specs.Prelude.{◌≡◌, cond, [], ◌∷◌, ◌++◌, MatchOption, ◌≢◌};
+ghost use Rattle.line.specs.declared.format.DataBits.{DataBits};
 ghost use Rattle.line.specs.declared.format.Format.{Format};
-ghost use Rattle.words.specs.Names.{name_of, Form};
+ghost use Rattle.line.specs.declared.format.Parity.{Parity};
+ghost use Rattle.line.specs.declared.format.StopBits.{StopBits};
+ghost use Rattle.words.specs.Names.{name_of, size_letter, parity_letter, stops_letter, Form};
 
 use line::{DataBits, Format, Parity, StopBits};
 
@@ -20,26 +23,41 @@ pub fn format_named(name: &[u8]) -> Option<Format>
 fn form(size: u8, address: bool, parity: u8, stops: u8) -> Option<Format>
     ensures { MatchOption result ((f : Format) → Form f size address parity stops → ⊥) (λ f. Form f size address parity stops) }
 {
-    let size = match size {
-        b'7' => DataBits::Seven,
-        b'8' => DataBits::Eight,
-        _ => return None,
-    };
-    let parity = match parity {
-        b'N' => Parity::Absent,
-        b'O' => Parity::Odd,
-        b'E' => Parity::Even,
-        _ => return None,
-    };
-    let stops = match stops {
-        b'1' => StopBits::One,
-        b'2' => StopBits::Two,
-        _ => return None,
-    };
     Some(Format {
-        size,
+        size: size_of(size)?,
         address,
-        parity,
-        stops,
+        parity: parity_of(parity)?,
+        stops: stops_of(stops)?,
     })
+}
+
+fn size_of(letter: u8) -> Option<DataBits>
+    ensures { MatchOption result ((s : DataBits) → size_letter s ≢ letter) (λ s. size_letter s ≡ letter) }
+{
+    match letter {
+        b'7' => Some(DataBits::Seven),
+        b'8' => Some(DataBits::Eight),
+        _ => None,
+    }
+}
+
+fn parity_of(letter: u8) -> Option<Parity>
+    ensures { MatchOption result ((p : Parity) → parity_letter p ≢ letter) (λ p. parity_letter p ≡ letter) }
+{
+    match letter {
+        b'N' => Some(Parity::Absent),
+        b'O' => Some(Parity::Odd),
+        b'E' => Some(Parity::Even),
+        _ => None,
+    }
+}
+
+fn stops_of(letter: u8) -> Option<StopBits>
+    ensures { MatchOption result ((s : StopBits) → stops_letter s ≢ letter) (λ s. stops_letter s ≡ letter) }
+{
+    match letter {
+        b'1' => Some(StopBits::One),
+        b'2' => Some(StopBits::Two),
+        _ => None,
+    }
 }
