@@ -1,5 +1,5 @@
 -- The times of the service port.
-use Rattle.std.specs.Prelude.{◌≡◌, ℕ, ◌+◌, ◌*◌, ◌/◌, ◌%◌, ◌≤◌, cond, List, map, replicate, Ok, Err, Result, slice_index}
+use Rattle.std.specs.Prelude.{◌≡◌, ℕ, ◌+◌, ◌*◌, ◌/◌, ◌%◌, ◌≤◌, List, map, replicate, Ok, Err, Result, slice_index, if◌then◌else◌}
 use Rattle.std.specs.List.{range_with_len}
 use Rattle.line.specs.declared.format.Format.{Format}
 use Rattle.line.specs.declared.refusal.Refusal.{Refusal}
@@ -36,4 +36,4 @@ port_times f d = record {
 
 -- a format with an address bit is refused
 abbrev pub timed : Format → ℕ → Result Times Refusal
-timed f d = cond f.address (Err OutOfRange) (Ok (port_times f d))
+timed f d = if f.address then Err OutOfRange else Ok (port_times f d)

@@ -8,6 +8,7 @@ ghost use Rattle.port.specs.Port.{samples, timed, Spaced};
 use super::settings::Settings;
 use ends::{Kind, Timing};
 use line::{Format, Refusal};
+use std::array;
 
 // The kind of end that is a laptop's service port.
 pub struct Port;
@@ -41,9 +42,5 @@ fn sample_table(divider: u32) -> [u32; 36]
     requires { divider ≤ 4096 }
     ensures { result ≡ samples divider 36 }
 {
-    let mut clocks = [0; 36];
-    for i in 0..36 {
-        clocks[i] = (16 * (i as u32 / 3) + 7 + i as u32 % 3) * divider;
-    }
-    clocks
+    array::from_fn(|i| (16 * (i as u32 / 3) + 7 + i as u32 % 3) * divider)
 }

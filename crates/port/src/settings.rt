@@ -5,7 +5,7 @@ ghost use Rattle.line.specs.declared.refusal.Refusal.TheVariants.{OutOfRange};
 
 use line::Refusal;
 
-#[derive(Clone, Copy)]
+#[derive(Clone, Copy, PartialEq, Eq, Debug)]
 pub struct Settings {
     pub(crate) divider: u16,
     ghost least: { 1 ≤ divider },
@@ -16,7 +16,7 @@ impl Settings {
     pub fn new(divider: u16) -> Result<Settings, Refusal>
         ensures { MatchResult result (λ s. InRange divider × (s.divider ≡ divider)) (λ e. (InRange divider → ⊥) × (e ≡ OutOfRange)) }
     {
-        if divider < 1 || divider > 4096 {
+        if !(1..=4096).contains(&divider) {
             return Err(Refusal::OutOfRange);
         }
         Ok(Settings { divider })
