@@ -1,7 +1,6 @@
 -- How far the outer samples of a bit lie from the middle one.
-use Rattle.std.proofs.Common.{◌≡◌, ℕ, zero, suc, ◌+◌, ◌*◌, ◌/◌, ◌^◌, ◌<◌, ◌≤◌, max, ◌⊎◌, sym, refl, ap, ◌∙◌, inl, inr, ⊎_elim, add-one, arith, pow_mono}
+use Rattle.std.proofs.Common.{◌≡◌, ℕ, zero, suc, ◌+◌, ◌/◌, ◌^◌, ◌<◌, ◌≤◌, max, sym, refl, ap, ◌∙◌, ⊎_elim, add-one, arith, pow_mono}
 use Rattle.std.proofs.lemmas.Bool.{cases_lt, le-leb, lt-leb, cond-true, cond-false}
-use Rattle.std.proofs.lemmas.Nat.{pow_pos, pow-add}
 use Rattle.usart.specs.Usart.{power_within, distance, Spaced, Lasting}
 
 -- the power that `power_within` finds is the largest of all
@@ -19,30 +18,17 @@ spaced n p m =
     let f = found 16 n p (omega arith) in
     (f.0, f.1, rw add-one f.2, ap (λ power. max 1 (power / 32)) f.3)
 
--- the loop's distance: a power of two, and above one only where n has room for it
-abbrev pub Reached : ℕ → ℕ → Type 0
-Reached n x = (j : ℕ) × (x ≡ 2 ^ j) × ((x ≡ 1) ⊎ (32 * x ≤ n))
-
 smaller : (i k : ℕ) → 2 ^ i < 2 ^ k → i < k
 smaller i k h = ⊎_elim (λ l. l) (λ l. let m : 2 ^ k ≤ 2 ^ i = pow_mono l in absurd (omega arith)) (cases_lt i k)
 
-settled : (n x k : ℕ) → Reached n x → n < 64 * x → 2 ^ k ≤ n → n < 2 ^ (k + 1) → x ≡ max 1 (2 ^ k / 32)
-settled n x k (j, e, inl one) h low high = omega arith
-settled n x k (j, e, inr room) h low high =
-    let above : j + 5 < k + 1 = smaller (j + 5) (k + 1) (omega (arith, pow-add 2 j 5)) in
-    let below : k < j + 6 = smaller k (j + 6) (omega (arith, pow-add 2 j 6)) in
-    let at : k ≡ j + 5 = omega arith in
-    omega (arith, ap (λ i. 2 ^ i) at, pow-add 2 j 5, pow_pos j)
-
--- the loop's last distance is the one that n asks for
-pub finished : (n x : ℕ) → n ≤ 65536 → Reached n x → n < 64 * x → (x ≡ distance n) × (1 ≤ n → Spaced n x)
-unfolding power_within
-finished zero x m (j, e, inl one) h = (one, λ p. absurd (omega arith))
-finished zero x m (j, e, inr room) h = absurd (omega arith)
-finished (suc n) x m r h =
-    let s = spaced (suc n) (omega arith) m in
-    let e = settled (suc n) x s.0 r h s.1 s.2 in
-    (e ∙ sym s.3, λ p. (s.0, s.1, s.2, e))
+-- there is one such distance
+pub distance_is : (n x : ℕ) → Lasting n → Spaced n x → x ≡ distance n
+distance_is n x l s =
+    let t = spaced n (omega (arith, l.0)) l.1 in
+    let above : s.0 < t.0 + 1 = smaller s.0 (t.0 + 1) (omega (arith, s.1, t.2)) in
+    let below : t.0 < s.0 + 1 = smaller t.0 (s.0 + 1) (omega (arith, t.1, s.2)) in
+    let same : s.0 ≡ t.0 = omega arith in
+    s.3 ∙ ap (λ k. max 1 (2 ^ k / 32)) same ∙ sym t.3
 
 -- a bit of three clocks or more has room for its samples
 pub close : (n : ℕ) → Lasting n → (distance n ≤ n / 2) × (n / 2 + distance n < n)

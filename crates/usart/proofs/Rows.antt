@@ -1,6 +1,5 @@
 -- The look-up of a row, and tests that are computed over the whole table.
-use Rattle.std.proofs.Common.{◌≡◌, ℕ, zero, suc, ◌+◌, ◌<◌, ◌≤◌, Bool, true, false, not, ◌&&◌, T, eqb, leb, List, [], ◌∷◌, length, get_or, drop, Some, None, sym, refl, ap, ◌∙◌, subst, ⊎_elim, arith, eq-eqb, eqb-true}
-use Rattle.std.proofs.lemmas.List.{at_drop_more, at_drop_all}
+use Rattle.std.proofs.Common.{◌≡◌, ℕ, zero, suc, ◌<◌, ◌≤◌, Bool, true, false, not, ◌&&◌, T, eqb, leb, List, [], ◌∷◌, length, get_or, Some, None, sym, refl, ap, ◌∙◌, subst, ⊎_elim, arith, eq-eqb, eqb-true}
 use Rattle.std.proofs.lemmas.Bool.{and_from, and_parts, cond-true, cond-false, cases_Bool, leb-true}
 use Rattle.usart.specs.declared.built.Row.{Row}
 use Rattle.usart.specs.Table.{rows, blank, Has, lookup, Distinct, InRange}
@@ -10,16 +9,6 @@ same r c b = eqb r.clock c && eqb r.baud b
 
 has_same : (r : Row) (c b : ℕ) → Has r c b → same r c b ≡ true
 has_same r c b h = and_from _ _ (eq-eqb _ _ h.0) (eq-eqb _ _ h.1)
-
-pub hit : (rs : List Row) (c b i : ℕ) → i < length rs → (get_or rs i blank).clock ≡ c → (get_or rs i blank).baud ≡ b → lookup rs c b ≡ lookup (drop i rs) c b → Some (get_or rs i blank) ≡ lookup rs c b
-hit rs c b i lt p q inv =
-    sym (inv ∙ at_drop_more (λ xs. lookup xs c b) rs i blank lt ∙ cond-true (same (get_or rs i blank) c b) _ _ (has_same (get_or rs i blank) c b (p, q)))
-
-pub miss : (rs : List Row) (c b i : ℕ) → i < length rs → same (get_or rs i blank) c b ≡ false → lookup rs c b ≡ lookup (drop i rs) c b → lookup rs c b ≡ lookup (drop (i + 1) rs) c b
-miss rs c b i lt p inv = inv ∙ at_drop_more (λ xs. lookup xs c b) rs i blank lt ∙ cond-false (same (get_or rs i blank) c b) _ _ p
-
-pub ended : (rs : List Row) (c b i : ℕ) → length rs ≤ i → lookup rs c b ≡ lookup (drop i rs) c b → None ≡ lookup rs c b
-ended rs c b i l inv = sym (inv ∙ at_drop_all (λ xs. lookup xs c b) rs i l)
 
 -- what the look-up answers holds of a row of the list
 pub record Among (rs : List Row) (r : Row) (c b : ℕ) : Type 0 where
@@ -114,6 +103,13 @@ the_row c b r e k l h =
     let bauds : r.baud ≡ (get_or rows a.place blank).baud = ap (λ (x : Row). x.baud) (sym a.is) in
     let at : k ≡ a.place = distinct k a.place l (omega (arith, a.within, rows_length)) (h.0 ∙ sym a.has.0 ∙ clocks, h.1 ∙ sym a.has.1 ∙ bauds) in
     sym (ap (λ (j : ℕ). get_or rows j blank) at ∙ a.is)
+
+-- the settings of the row that was found are in range
+pub least : (c b : ℕ) (r : Row) → lookup rows c b ≡ Some r → 3 ≤ r.divider
+least c b r e =
+    let a = among rows c b r e in
+    let divider : r.divider ≡ (get_or rows a.place blank).divider = ap (λ (x : Row). x.divider) (sym a.is) in
+    omega (arith, divider, (in_range a.place (omega (arith, a.within, rows_length))).0)
 
 -- some row has the two, where one was found
 pub one_has : (c b : ℕ) (r : Row) → lookup rows c b ≡ Some r → ((k : ℕ) → k < 22 → Has (get_or rows k blank) c b → ⊥) → ⊥

@@ -2,6 +2,8 @@
 use Rattle.std.proofs.Common.{◌≡◌, ℕ, zero, suc, ◌+◌, ◌-◌, ◌*◌, ◌/◌, ◌<◌, ◌≤◌, List, [], ◌∷◌, ◌++◌, length, get_or, take, sym, refl, ap, ◌∙◌, ap₂, add-zero, add_assoc, zero-add, arith}
 use borrow.Rule.Slice.PartMut.{put_mid}
 use Rattle.std.specs.List.{AllByRecursion as All}
+use Rattle.std.specs.List.{sum as total}
+use Rattle.std.proofs.lemmas.List.Sums.{sum_by-cons}
 use Rattle.std.proofs.lemmas.List.{take_all, take_more, get_or_append_left, get_or-append-add}
 use Rattle.std.proofs.ByRecursion.{All-get_or}
 use Rattle.std.proofs.lemmas.List.FromFn.{get_or-map-range_with_len}
@@ -14,6 +16,11 @@ use Rattle.usart.proofs.Distance.{close, spaced}
 pub bit_lasting : (u m n : ℕ) (ns : List ℕ) → ns ≡ lengths u m n → 3 ≤ u → u < 65536 → (k : ℕ) → k < n → Lasting (get_or ns k 0)
 unfolding lengths
 bit_lasting u m n ns e low high k h = rw (e, get_or-map-range_with_len (bit_length u m) 0 n k k 0 h (zero-add k)) (omega arith, omega arith)
+
+-- the library adds from the front on
+pub total_is : (ns : List ℕ) → total ns ≡ sum ns
+total_is [] = refl
+total_is (n ∷ ns) = omega (arith, sum_by-cons (λ x. x) n ns, total_is ns)
 
 sum_push : (ns : List ℕ) (n : ℕ) → sum (ns ++ n ∷ []) ≡ sum ns + n
 sum_push [] n = omega arith

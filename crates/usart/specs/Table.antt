@@ -1,5 +1,5 @@
 -- The table of built-in settings.
-use Rattle.std.specs.Prelude.{◌≡◌, ℕ, ◌<◌, ◌≤◌, cond, ◌&&◌, List, [], ◌∷◌, Some, None, Option, ◌==◌, slice_index_or}
+use Rattle.std.specs.Prelude.{◌≡◌, ℕ, ◌<◌, ◌≤◌, ◌&&◌, List, [], ◌∷◌, Some, None, Option, ◌==◌, slice_index_or, find}
 use Rattle.usart.specs.declared.settings.Settings.{Settings}
 use Rattle.usart.specs.declared.built.Row.{Row}
 
@@ -51,8 +51,7 @@ found (Some s) = Some (s.divider, s.modulator)
 
 -- the first row with this clock and baud rate
 abbrev pub lookup : List Row → ℕ → ℕ → Option Row
-lookup [] c b = None
-lookup (r ∷ rs) c b = cond (r.clock == c && r.baud == b) (Some r) (lookup rs c b)
+lookup rs c b = find (λ r. r.clock == c && r.baud == b) rs
 
 -- no two rows share clock and baud rate
 abbrev pub Distinct : Type 0

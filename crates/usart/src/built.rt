@@ -4,7 +4,7 @@ ghost use Rattle.usart.specs.Table.{rows, blank, Has, found, pair, lookup, Disti
 
 use super::settings::Settings;
 
-#[derive(Clone, Copy)]
+#[derive(Clone, Copy, PartialEq, Eq, Debug)]
 pub struct Row {
     // in hertz
     pub clock: u32,
@@ -155,23 +155,18 @@ pub fn built_in(clock: u32, baud: u32) -> Option<Settings>
     ensures distinct { Distinct }
     ensures ranges { InRange }
 {
-    let Some(row) = find(&ROWS, clock, baud) else {
-        return None;
-    };
+    let row = row_of(clock, baud)?;
     Some(Settings {
         divider: row.divider,
         modulator: row.modulator,
     })
 }
 
-// The first of the rows with this clock and baud rate.
-fn find(rows: &[Row], clock: u32, baud: u32) -> Option<Row>
-    ensures { result ≡ lookup rows.now clock baud }
+// The row with this clock and baud rate.
+fn row_of(clock: u32, baud: u32) -> Option<Row>
+    ensures { result ≡ lookup rows clock baud }
 {
-    for row in rows {
-        if row.clock == clock && row.baud == baud {
-            return Some(*row);
-        }
-    }
-    None
+    ROWS.iter()
+        .find(|row| row.clock == clock && row.baud == baud)
+        .copied()
 }

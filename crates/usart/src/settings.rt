@@ -6,7 +6,7 @@ ghost use Rattle.usart.specs.Usart.{bit_length, lengths};
 
 use line::Refusal;
 
-#[derive(Clone, Copy)]
+#[derive(Clone, Copy, PartialEq, Eq, Debug)]
 pub struct Settings {
     pub(crate) divider: u16,
     pub(crate) modulator: u8,
@@ -47,10 +47,6 @@ impl Settings {
     pub fn clocks(&self, bits: u8) -> u32
         ensures { result ≡ sum (lengths self.now.divider self.now.modulator bits) }
     {
-        let mut clocks = 0;
-        for k in 0..bits {
-            clocks += self.bit_length(k as usize);
-        }
-        clocks
+        (0..usize::from(bits)).map(|k| self.bit_length(k)).sum()
     }
 }

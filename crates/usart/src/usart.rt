@@ -1,5 +1,5 @@
 // The USART as a kind of end.
-ghost use Rattle.std.specs.Prelude.{◌≡◌, ℕ, ◌*◌, ◌<◌, ◌≤◌, take, Ok, MatchResult, slice_index};
+ghost use Rattle.std.specs.Prelude.{◌≡◌, ℕ, ◌*◌, ◌<◌, ◌≤◌, Ok, MatchResult, length, slice_index};
 ghost use Rattle.line.specs.Frames.{first_stop};
 ghost use Rattle.ends.specs.Times.{Inside};
 ghost use Rattle.ends.specs.Timed.{answered, sample_clocks};
@@ -8,6 +8,7 @@ ghost use Rattle.usart.specs.Usart.{lengths, distance, bit_samples, samples, usa
 use super::settings::Settings;
 use ends::{Kind, Timing};
 use line::{Format, Refusal};
+use std::array;
 
 // The kind of end that is the MSP430's USART.
 pub struct Usart;
@@ -26,7 +27,7 @@ impl Kind for Usart {
         Ok(Timing {
             format,
             lengths,
-            samples: sample_clocks(&lengths),
+            samples: sample_clocks(&lengths[..12]),
             sample_count: 3 * (1 + format.first_stop()),
             break_length: 10 * settings.divider as u32,
         })
@@ -35,26 +36,18 @@ impl Kind for Usart {
 
 // How far the outer samples of a bit of this length lie from the middle one.
 fn sample_distance(length: u32) -> u32
-    requires { length ≤ 65536 }
+    requires { Lasting length }
     ensures value { result ≡ distance length }
-    ensures spaced { 1 ≤ length → Spaced length result }
+    ensures spaced { Spaced length result }
 {
-    let mut x = 1;
-    while 64 * x <= length {
-        x *= 2;
-    }
-    x
+    ((1 << length.ilog2()) / 32).max(1)
 }
 
 // How many clocks each of the thirteen bits that a frame may have lasts.
 fn bit_lengths(settings: &Settings) -> [u32; 13]
     ensures { result ≡ lengths settings.now.divider settings.now.modulator 13 }
 {
-    let mut table = [0; 13];
-    for k in 0..13 {
-        table[k] = settings.bit_length(k);
-    }
-    table
+    array::from_fn(|k| settings.bit_length(k))
 }
 
 // The clocks at which a bit of this length is sampled that begins at clock `start`.
@@ -67,16 +60,17 @@ fn bit_samples(start: u32, length: u32) -> [u32; 3]
     [middle - distance, middle, middle + distance]
 }
 
-// The clocks at which the first twelve bits are sampled, one bit after the other.
-fn sample_clocks(lengths: &[u32; 13]) -> [u32; 36]
-    requires { (k : ℕ) → k < 13 → Lasting (slice_index lengths.now k) }
-    ensures { result ≡ samples 0 (take 12 lengths.now) }
+// The clocks at which bits of these lengths are sampled, the first twelve of a frame, one after the other.
+fn sample_clocks(lengths: &[u32]) -> [u32; 36]
+    requires twelve { length lengths.now ≡ 12 }
+    requires lasting { (k : ℕ) → k < 12 → Lasting (slice_index lengths.now k) }
+    ensures { result ≡ samples 0 lengths.now }
 {
     let mut clocks = [0; 36];
     let mut start = 0;
-    for k in 0..12 {
-        clocks[3 * k..3 * k + 3].copy_from_slice(&bit_samples(start, lengths[k]));
-        start += lengths[k];
+    for (k, length) in lengths.iter().enumerate() {
+        clocks[3 * k..3 * k + 3].copy_from_slice(&bit_samples(start, *length));
+        start += length;
     }
     clocks
 }

@@ -1,5 +1,5 @@
 -- One more bit is sampled after those before it.
-use Rattle.std.proofs.Common.{◌≡◌, ◌*◌, ◌≤◌, length, get_or, take, sym, ap, ◌∙◌, arith, rules}
+use Rattle.std.proofs.Common.{◌≡◌, ◌*◌, ◌≤◌, length, get_or, sym, ap, ◌∙◌, arith, rules}
 use Rattle.std.proofs.lemmas.List.{places, take_all}
 use Rattle.usart.specs.Usart.{samples, bit_samples}
 use Rattle.usart.proofs.Samples.{start_more, samples_more}
@@ -9,7 +9,7 @@ pub loop-k-preserved : goal.loop-k-preserved
 loop-k-preserved c =
     let ns = c.args.lengths.now in
     let k = c.loop-k.k in
-    let n = c.requires k (omega arith) in (
+    let n = c.requires.lasting k (omega arith) in (
       samples_more ns c.loop-k.clocks c.copy_from_slice.new.self k (omega arith) (omega arith) c.loop-k.invariant.0 (c.copy_from_slice.ensures.after ∙ c.bit_samples.ensures ∙ ap (λ s. bit_samples s (get_or ns k 0)) c.loop-k.invariant.1),
       omega (arith, start_more ns k (omega arith)),
       omega arith,
@@ -18,6 +18,7 @@ loop-k-preserved c =
 
 pub returns : goal.returns
 returns c =
+    let ns = c.args.lengths.now in
     let k : c.loop-k.k ≡ 12 = omega arith in
     let whole : length c.loop-k.clocks ≤ 3 * c.loop-k.k = omega arith in
-    sym (take_all _ _ whole) ∙ c.loop-k.invariant.0 ∙ ap (λ i. samples 0 (take i c.args.lengths.now)) k
+    sym (take_all _ _ whole) ∙ c.loop-k.invariant.0 ∙ ap (λ l. samples 0 l) (take_all c.loop-k.k ns (omega arith))

@@ -1,26 +1,24 @@
--- One bit more.
-use Rattle.std.proofs.Common.{◌≡◌, ℕ, ◌+◌, List, [], ◌∷◌, ◌++◌, sym, refl, ap, ◌∙◌, ap₂, arith, rules}
-use Rattle.std.proofs.lemmas.List.FromFn.{map-range_with_len_more}
-use Rattle.ends.specs.Times.{sum}
+-- The chain's sum is that of the lengths, none of which is above 2 ^ 16.
+use Rattle.std.proofs.Common.{ℕ, ◌∙◌, arith, rules, tests}
+use Rattle.std.proofs.lemmas.Iterator.{YieldsList-from_map, YieldsList-from_range}
+use Rattle.std.proofs.lemmas.Iterator.Adapters.{fits_from_length, at_most_from_yields_List}
+use Rattle.std.proofs.lemmas.Iterator.Consumers.{sum_from_yields_List}
+use Rattle.std.proofs.lemmas.List.FromFn.{length-range_with_len}
 use Rattle.usart.specs.Usart.{bit_length, lengths}
+use Rattle.usart.proofs.Samples.{total_is}
 use Rattle.usart.proofs.settings.Settings.clocks.Goals as goal
 
-sum_push : (ns : List ℕ) (n : ℕ) → sum (ns ++ (n ∷ [])) ≡ sum ns + n
-sum_push [] n = omega arith
-sum_push (x ∷ ns) n = omega (arith, sum_push ns n)
+pub sum-requires-clause-fits : goal.sum-requires-clause-fits
+sum-requires-clause-fits c =
+    let n : ℕ = c.args.bits in
+    fits_from_length _ _ 255 _ (at_most_from_yields_List (YieldsList-from_range 0 n n (cc) (omega arith)) (omega (arith, length-range_with_len 0 n)))
+    c.map.ensures.closure (omega arith) (λ x r q k. search (rules, tests))
 
-pub loop-k-init : goal.loop-k-init
+pub returns : goal.returns
 unfolding lengths
-loop-k-init c = (refl, omega arith)
-
-pub overflow_add-clocks : goal.overflow_add-clocks
-overflow_add-clocks c = search rules
-
-pub loop-k-preserved : goal.loop-k-preserved
-unfolding lengths
-loop-k-preserved c =
+returns c =
     let s = c.args.self.now in
-    let k : ℕ = c.loop-k.k in
-    let more : sum (lengths s.divider s.modulator (k + 1)) ≡ sum (lengths s.divider s.modulator k) + bit_length s.divider s.modulator k =
-    ap sum (map-range_with_len_more (bit_length s.divider s.modulator) 0 k k (omega arith)) ∙ sum_push (lengths s.divider s.modulator k) (bit_length s.divider s.modulator k) in
-    (ap₂ (λ (a b : ℕ). a + b) c.loop-k.invariant.0 c.bit_length-clocks.ensures.value ∙ sym more, omega (arith, c.loop-k.invariant.1, c.bit_length-clocks.ensures.bound))
+    let n : ℕ = c.args.bits in
+    sum_from_yields_List c.map.result c.sum.result c.sum.ensures.ran
+    (YieldsList-from_map _ (bit_length s.divider s.modulator) (YieldsList-from_range 0 n n (cc) (omega arith)) c.map.ensures.closure (λ x r q k. search (rules, tests)))
+    ∙ total_is (lengths s.divider s.modulator n)

@@ -2,6 +2,7 @@
 use Rattle.std.proofs.Common.{◌≡◌, ◌+◌, ◌*◌, arith, rules}
 use Rattle.line.specs.Frames.{first_stop}
 use Rattle.line.proofs.Bits.{stop_most}
+use Rattle.std.proofs.lemmas.List.{get_or-take}
 use Rattle.usart.proofs.Samples.{bit_lasting}
 use Rattle.usart.proofs.Table.{frame_samples, inside_used, centred_used, tables}
 use Rattle.usart.proofs.usart.UsartKind.timing.Goals as goal
@@ -9,7 +10,12 @@ use Rattle.usart.proofs.usart.UsartKind.timing.Goals as goal
 pub sample_clocks-requires : goal.sample_clocks-requires
 sample_clocks-requires c =
     let s = c.args.settings in
-    bit_lasting s.divider s.modulator 13 _ c.bit_lengths-lengths.ensures s.least (omega arith)
+    let ns = c.bit_lengths-lengths.result in
+    let each = bit_lasting s.divider s.modulator 13 ns c.bit_lengths-lengths.ensures s.least (omega arith) in
+    record {
+      twelve = search rules;
+      lasting = λ k h. rw (get_or-take 12 ns k 0 h) (each k (omega arith));
+    }
 
 pub invariant_of-result : goal.invariant_of-result
 invariant_of-result c =
