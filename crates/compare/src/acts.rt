@@ -1,9 +1,10 @@
 // Acts for a link: two clocks that drift or stumble, with loads, reads and noise between them.
 use super::dice::Dice;
-use super::times::End;
+use super::times::Pair;
 use line::Level;
 use link::Act;
 use std::alloc::{AllocError, Global};
+use std::iter::repeat_n;
 
 // How often each thing is done: once in so many clocks.
 #[derive(Clone, Copy)]
@@ -16,15 +17,11 @@ struct Habits {
 
 impl Habits {
     fn new(dice: &mut Dice) -> Habits {
-        let load = [3, 30, 150][dice.below(3) as usize % 3];
-        let read = [4, 70, 400, 0][dice.below(4) as usize % 4];
-        let noise = [0, 0, 30, 400][dice.below(4) as usize % 4];
-        let stumble = [0, 0, 10, 50][dice.below(4) as usize % 4];
         Habits {
-            load,
-            read,
-            noise,
-            stumble,
+            load: dice.one_of(&[3, 30, 150]),
+            read: dice.one_of(&[4, 70, 400, 0]),
+            noise: dice.one_of(&[0, 0, 30, 400]),
+            stumble: dice.one_of(&[0, 0, 10, 50]),
         }
     }
 }
@@ -59,26 +56,22 @@ fn push_receive(acts: &mut Vec<Act>, dice: &mut Dice, habits: Habits) -> Result<
     Ok(())
 }
 
-pub fn some_acts(
-    heap: Global,
-    dice: &mut Dice,
-    sender: &End,
-    receiver: &End,
-) -> Result<Vec<Act>, AllocError> {
+pub fn some_acts(heap: Global, dice: &mut Dice, pair: &Pair) -> Result<Vec<Act>, AllocError> {
     let mut acts = Vec::new(heap);
     let habits = Habits::new(dice);
     // a send clock brings so many parts of a receive clock, which has so many
-    let brought = u64::from(receiver.starts[10]).saturating_mul(u64::from(some_speed(dice)));
-    let parts = u64::from(sender.starts[10]).saturating_mul(100).max(1);
+    let brought = u64::from(pair.receiver.start(10)).saturating_mul(u64::from(some_speed(dice)));
+    let parts = u64::from(pair.sender.start(10)).saturating_mul(100).max(1);
     // now and then long enough to fill a queue on a queue
     let frames = if dice.one_in(16) { 40 } else { 5 };
-    let clocks = sender
+    let clocks = pair
+        .sender
         .frame_clocks
         .saturating_mul(u32::from(dice.below(frames)) + 1);
     let mut owed = u64::from(dice.below(100)) % parts;
     for _ in 0..clocks {
         if dice.one_in(habits.load) {
-            acts.push(Act::Load(sender.shape.character(dice, 20)))?;
+            acts.push(Act::Load(pair.sender.shape.character(dice, 20)))?;
         }
         acts.push(Act::Send)?;
         owed = owed.saturating_add(brought);
@@ -92,8 +85,6 @@ pub fn some_acts(
         }
         owed %= parts;
     }
-    for _ in 0..dice.below(40) {
-        acts.push(Act::Read)?;
-    }
+    acts.extend(repeat_n(Act::Read, usize::from(dice.below(40))))?;
     Ok(acts)
 }

@@ -1,4 +1,5 @@
-// The addresses of the chip's registers, and the bits of the control registers that count.
+// The addresses of the chip's registers, and the bits of the control registers that count. The library has them too:
+// they stand here again since the second emulator is written apart from it.
 pub const UCTL: u16 = 0x70;
 
 pub const UTCTL: u16 = 0x71;

@@ -31,4 +31,11 @@ impl Dice {
     pub fn one_in(&mut self, count: u16) -> bool {
         count != 0 && self.below(count) == 0
     }
+
+    // One of these numbers, or 0 where there is none.
+    pub fn one_of(&mut self, choices: &[u16]) -> u16 {
+        let count = choices.len().min(1000) as u16;
+        let place = usize::from(self.below(count));
+        choices.get(place).copied().unwrap_or(0)
+    }
 }

@@ -1,19 +1,33 @@
 // What firmware does to a chip in a case: it sets the chip up, releases it, clocks it, and looks and writes at odd moments.
 use super::address;
 use super::dice::Dice;
-use super::scans::some_picture;
+use super::scans::{levels, some_picture};
 use super::shape::Shape;
 use super::times::{End, Gear};
+use line::{DataBits, Level, Parity, StopBits};
 use std::alloc::{AllocError, Global};
 
 #[derive(Clone, Copy, Debug)]
 pub enum Step {
     Write { address: u16, value: u8 },
     Read { address: u16 },
-    // with the level on the line that is received, 1 for mark
-    Clock { level: u8 },
+    // with the level on the line that is received
+    Clock { level: Level },
     // asks for the interrupt flags
     Poll,
+}
+
+impl Step {
+    // Whether it puts the chip in reset.
+    pub fn resets(self) -> bool {
+        match self {
+            Step::Write {
+                address: address::UCTL,
+                value,
+            } => value & address::SWRST != 0,
+            _ => false,
+        }
+    }
 }
 
 // Any of the registers, and a few addresses beside them.
@@ -55,29 +69,18 @@ fn some_step(dice: &mut Dice) -> Step {
 
 // UCTL for a format, with SWRST 0, now and then with SYNC set.
 fn control(dice: &mut Dice, shape: Shape) -> u8 {
-    let mut value = 0;
-    if shape.parity != 0 {
-        value |= address::PENA;
-    }
-    if shape.parity == 2 {
-        value |= address::PEV;
-    }
-    if shape.stops == 2 {
-        value |= address::SP;
-    }
-    if shape.data == 8 {
-        value |= address::CHAR;
-    }
-    if shape.address == 1 {
-        value |= address::MM;
-    }
-    if dice.one_in(2) {
-        value |= address::LISTEN;
-    }
-    if dice.one_in(20) {
-        value |= address::SYNC;
-    }
-    value
+    let bits = [
+        (address::PENA, shape.parity != Parity::Absent),
+        (address::PEV, shape.parity == Parity::Even),
+        (address::SP, shape.stops == StopBits::Two),
+        (address::CHAR, shape.data == DataBits::Eight),
+        (address::MM, shape.address),
+        (address::LISTEN, dice.one_in(2)),
+        (address::SYNC, dice.one_in(20)),
+    ];
+    bits.iter()
+        .filter(|(_, set)| *set)
+        .fold(0u8, |value, (bit, _)| value | *bit)
 }
 
 // From a reset to the next one.
@@ -90,9 +93,9 @@ fn push_life(
     let divider = dice.byte() % 6 + 2;
     let modulator = dice.byte();
     let released = control(dice, shape);
-    let every = [2, 9, 40, 200][dice.below(4) as usize % 4];
+    let every = dice.one_of(&[2, 9, 40, 200]);
     // with a high byte the bits are so long that only a start bit is seen
-    let high = if dice.one_in(30) { 1 } else { 0 };
+    let high = u8::from(dice.one_in(30));
     let setup = [
         (address::UCTL, dice.byte() | address::SWRST),
         (address::UMCTL, modulator),
@@ -116,10 +119,8 @@ fn push_life(
     let end = End::new(shape, gear);
     for _ in 0..3 {
         let picture = some_picture(heap, &end, dice)?;
-        for level in picture.iter() {
-            steps.push(Step::Clock {
-                level: (*level).min(1),
-            })?;
+        for level in levels(heap, picture.as_slice())?.iter() {
+            steps.push(Step::Clock { level: *level })?;
             if dice.one_in(every) {
                 steps.push(some_step(dice))?;
             }

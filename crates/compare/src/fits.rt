@@ -1,11 +1,12 @@
 // Fit against its definition: every phase of two steady clocks, and every send clock at which a frame can begin.
 use super::dice::Dice;
-use super::shape::Shape;
-use super::tally::Tally;
-use super::times::End;
-use ends::{BareReceiver, BareSender};
+use super::said::agree;
+use super::tally::{Case, Tally};
+use super::times::Pair;
+use ends::{BareReceiver, BareSender, Timing};
+use line::Refusal;
 use link::{Rates, Verdict, fit};
-use std::io;
+use std::{fmt, io};
 
 // Whether a bit is sampled before it is held, or left before it is sampled.
 #[derive(Clone, Copy, PartialEq, Debug)]
@@ -14,13 +15,14 @@ enum Fault {
     Late,
 }
 
-// The lowest bit with a fault, or a refusal's number.
 #[derive(Clone, Copy, PartialEq, Debug)]
-enum Finding {
-    Passes,
-    Fails { bit: usize, fault: Fault },
-    Refused(u8),
+struct Failure {
+    bit: usize,
+    fault: Fault,
 }
+
+// The lowest bit with a fault, if there is one.
+type Finding = Result<Option<Failure>, Refusal>;
 
 // So many send clocks come to so many receive clocks, from a phase below the latter.
 #[derive(Clone, Copy)]
@@ -48,132 +50,140 @@ impl Clocks {
     }
 
     // What happens to a bit of the frame that begins at this send clock, counted from 1.
-    fn fault(self, sender: &End, receiver: &End, first: u64, bit: usize) -> Option<Fault> {
+    fn fault(self, pair: &Pair, first: u64, bit: usize) -> Option<Fault> {
         let edge = self.after(first);
-        let start_end = first.saturating_add(u64::from(start(sender, 1)));
-        if self.sent(edge) >= start_end {
+        let start = |bit: usize| first.saturating_add(u64::from(pair.sender.start(bit)));
+        if self.sent(edge) >= start(1) {
             // the start bit came and went between two receive clocks
             return Some(Fault::Late);
         }
-        let samples = receiver.samples.get(bit).copied().unwrap_or([0; 3]);
-        let begin = first.saturating_add(u64::from(start(sender, bit)));
-        let end = first.saturating_add(u64::from(start(sender, bit.saturating_add(1))));
-        if self.sent(edge.saturating_add(u64::from(samples[0]))) < begin {
+        let samples = pair.receiver.sampled(bit);
+        let sampled = |clock: u32| self.sent(edge.saturating_add(u64::from(clock)));
+        if sampled(samples[0]) < start(bit) {
             return Some(Fault::Early);
         }
-        if self.sent(edge.saturating_add(u64::from(samples[2]))) >= end {
+        if sampled(samples[2]) >= start(bit.saturating_add(1)) {
             return Some(Fault::Late);
         }
         None
     }
 }
 
-fn start(end: &End, bit: usize) -> u32 {
-    end.starts.get(bit).copied().unwrap_or(0)
+// A line, and the rates of its two clocks.
+#[derive(Clone, Copy)]
+struct Setup {
+    pair: Pair,
+    rates: Rates,
 }
 
-// What the bit suffers from some phase and some beginning, early first.
-fn worst(sender: &End, receiver: &End, rates: (u16, u16), bit: usize) -> Option<Fault> {
-    let mut found = None;
-    for phase in 0..rates.1 {
-        let clocks = Clocks {
-            send: u64::from(rates.0),
-            receive: u64::from(rates.1),
-            phase: u64::from(phase),
-        };
-        // the clocks fall alike again after as many send clocks as the rate says
-        for first in 0..rates.0 {
-            match clocks.fault(sender, receiver, u64::from(first) + 1, bit) {
-                Some(Fault::Early) => return Some(Fault::Early),
-                Some(Fault::Late) => found = Some(Fault::Late),
-                None => {}
+impl Setup {
+    // Rates at which the bits of both ends last about the same time.
+    fn random(dice: &mut Dice, pair: Pair) -> Setup {
+        let receive = u32::from(dice.below(40));
+        let scaled = u64::from(receive) * u64::from(pair.sender.start(10));
+        let even = scaled / u64::from(pair.receiver.start(10).max(1));
+        let near = even.min(200) as u32;
+        let send = near
+            .saturating_add(u32::from(dice.below(4)))
+            .saturating_sub(1);
+        Setup {
+            pair,
+            rates: Rates { send, receive },
+        }
+    }
+
+    // What the bit suffers from some phase and some beginning, early first.
+    fn worst(&self, bit: usize) -> Option<Fault> {
+        let mut found = None;
+        for phase in 0..self.rates.receive {
+            let clocks = Clocks {
+                send: u64::from(self.rates.send),
+                receive: u64::from(self.rates.receive),
+                phase: u64::from(phase),
+            };
+            // the clocks fall alike again after as many send clocks as the rate says
+            for first in 0..self.rates.send {
+                match clocks.fault(&self.pair, u64::from(first) + 1, bit) {
+                    Some(Fault::Early) => return Some(Fault::Early),
+                    Some(Fault::Late) => found = Some(Fault::Late),
+                    None => {}
+                }
             }
         }
+        found
     }
-    found
-}
 
-fn by_phases(sender: &End, receiver: &End, rates: (u16, u16)) -> Finding {
-    if rates.0 == 0 || rates.1 == 0 {
-        return Finding::Refused(1);
-    }
-    if !sender.shape.agrees(receiver.shape) {
-        return Finding::Refused(5);
-    }
-    for bit in 0..receiver.shape.first_stop() as usize + 1 {
-        if let Some(fault) = worst(sender, receiver, rates, bit) {
-            return Finding::Fails { bit, fault };
+    fn by_phases(&self) -> Finding {
+        if self.rates.send == 0 || self.rates.receive == 0 {
+            return Err(Refusal::OutOfRange);
         }
+        if !self.pair.agrees() {
+            return Err(Refusal::FormatsDiffer);
+        }
+        let bits = self.pair.receiver.shape.first_stop().saturating_add(1);
+        Ok((0..bits).find_map(|bit| {
+            let fault = self.worst(bit)?;
+            Some(Failure { bit, fault })
+        }))
     }
-    Finding::Passes
-}
 
-fn by_library(sender: &End, receiver: &End, rates: (u16, u16)) -> Finding {
-    let timings = (
-        sender.gear.library(sender.shape),
-        receiver.gear.library(receiver.shape),
-    );
-    let (Ok(from), Ok(to)) = timings else {
-        return Finding::Refused(255);
-    };
-    let verdict = fit(
-        &BareSender::new(from),
-        &BareReceiver::new(to),
-        Rates {
-            send: u32::from(rates.0),
-            receive: u32::from(rates.1),
-        },
-    );
-    match verdict {
-        Ok(Verdict::Passes) => Finding::Passes,
-        Ok(Verdict::Early(bit)) => Finding::Fails {
-            bit,
-            fault: Fault::Early,
-        },
-        Ok(Verdict::Late(bit)) => Finding::Fails {
-            bit,
-            fault: Fault::Late,
-        },
-        Err(refusal) => Finding::Refused(refusal.number()),
+    fn by_library(&self, from: Timing, to: Timing) -> Finding {
+        let sender = BareSender::new(from);
+        let receiver = BareReceiver::new(to);
+        let failure = |bit: usize, fault: Fault| Some(Failure { bit, fault });
+        Ok(match fit(&sender, &receiver, self.rates)? {
+            Verdict::Passes => None,
+            Verdict::Early(bit) => failure(bit, Fault::Early),
+            Verdict::Late(bit) => failure(bit, Fault::Late),
+        })
     }
 }
 
-// Rates at which the bits of both ends last about the same time.
-fn some_rates(dice: &mut Dice, sender: &End, receiver: &End) -> (u16, u16) {
-    let receive = dice.below(40);
-    let scaled = u64::from(receive) * u64::from(start(sender, 10));
-    let even = scaled / u64::from(start(receiver, 10).max(1));
-    let near = even.min(200) as u16;
-    (
-        near.saturating_add(dice.below(4)).saturating_sub(1),
-        receive,
-    )
+#[derive(Drop)]
+struct Rated {
+    seed: u16,
+    setup: Setup,
+    own: Finding,
+    library: Finding,
 }
 
-pub fn compare(rt: &HostRuntime) -> io::Result<Tally> {
-    let mut tally = Tally::new();
-    for seed in 0..1500u16 {
+impl Rated {
+    // None where the library refuses the settings of an end.
+    fn run(seed: u16) -> Option<Rated> {
         let mut dice = Dice::new(u32::from(seed));
-        let shape = Shape::numbered(seed % 24);
-        let other = match dice.below(20) {
-            0 => Shape::numbered(dice.below(24)),
-            _ => Shape {
-                stops: (dice.below(2) % 2) as u8 + 1,
-                ..shape
-            },
-        };
-        let sender = End::short(&mut dice, shape);
-        let receiver = End::short(&mut dice, other);
-        let rates = some_rates(&mut dice, &sender, &receiver);
-        let own = by_phases(&sender, &receiver, rates);
-        let library = by_library(&sender, &receiver, rates);
-        if tally.count(own == library) {
-            println!(rt;
-                "seed {seed}, rates {rates:?}, sender {:?}, {:?}, receiver {:?}, {:?}",
-                sender.shape, sender.gear, receiver.shape, receiver.gear
-            )?;
-            println!(rt; "  the library        {library:?}")?;
-            println!(rt; "  the other emulator {own:?}")?;
+        let pair = Pair::short(&mut dice, seed, 20);
+        let setup = Setup::random(&mut dice, pair);
+        let (from, to) = pair.timings().ok()?;
+        Some(Rated {
+            seed,
+            setup,
+            own: setup.by_phases(),
+            library: setup.by_library(from, to),
+        })
+    }
+}
+
+impl Case for Rated {
+    fn is_same(&self) -> bool {
+        agree(&self.own, &self.library)
+    }
+}
+
+impl fmt::Display for Rated {
+    fn fmt<W: fmt::Write>(&self, f: &mut fmt::Formatter<W>) -> fmt::Result {
+        let seed = self.seed;
+        let Setup { pair, rates } = self.setup;
+        writeln!(f, "seed {seed}, {rates:?}, {pair}")?;
+        writeln!(f, "  the library        {:?}", self.library)?;
+        writeln!(f, "  the other emulator {:?}", self.own)
+    }
+}
+
+pub fn compare(rt: &impl Print) -> io::Result<Tally> {
+    let mut tally = Tally::default();
+    for seed in 0..1500 {
+        if let Some(case) = Rated::run(seed) {
+            tally.count(rt, &case)?;
         }
     }
     Ok(tally)

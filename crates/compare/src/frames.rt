@@ -1,101 +1,175 @@
 // Formats, frames and tables of times: every frame of every format, and the settings of both kinds of ends.
 use super::dice::Dice;
+use super::levels::byte_of;
+use super::said::agree;
 use super::shape::Shape;
-use super::tally::Tally;
-use super::times::Gear;
+use super::tally::{Case, Tally};
+use super::times::{End, Gear};
 use ends::{BareReceiver, BareSender, Receiver, Sender, Timing};
-use std::io;
+use line::{Format, Refusal};
+use std::{fmt, io};
 
-// The frame of a character as binary digits, bit 0 the lowest.
-fn digits(shape: Shape, character: u16) -> u16 {
-    let mut sum = 0u16;
-    for bit in 0..shape.bits() {
-        let level = u16::from(shape.level(character, bit));
-        sum = sum.saturating_add(level << (bit % 16));
-    }
-    sum
+// A frame as binary digits, bit 0 the lowest.
+#[derive(Clone, Copy)]
+struct Framed {
+    shape: Shape,
+    character: u16,
+    own: Result<u16, Refusal>,
+    library: Result<u16, Refusal>,
 }
 
-pub fn compare_frames(rt: &HostRuntime) -> io::Result<Tally> {
-    let mut tally = Tally::new();
-    for number in 0..24 {
-        let shape = Shape::numbered(number);
+impl Framed {
+    fn run(shape: Shape, character: u16) -> Framed {
+        Framed {
+            shape,
+            character,
+            own: Ok(digits(shape, character)),
+            library: Format::try_from(shape).map(|format| format.frame(character)),
+        }
+    }
+}
+
+fn digits(shape: Shape, character: u16) -> u16 {
+    (0..shape.bits()).fold(0u16, |sum, bit| {
+        let level = u16::from(byte_of(shape.level(character, bit)));
+        sum.saturating_add(level << (bit % 16))
+    })
+}
+
+impl Case for Framed {
+    fn is_same(&self) -> bool {
+        agree(&self.own, &self.library)
+    }
+}
+
+impl fmt::Display for Framed {
+    fn fmt<W: fmt::Write>(&self, f: &mut fmt::Formatter<W>) -> fmt::Result {
+        let character = self.character;
+        writeln!(f, "{}, character {character:X}h", self.shape)?;
+        writeln!(f, "  the library        {:?}", self.library)?;
+        writeln!(f, "  the other emulator {:?}", self.own)
+    }
+}
+
+pub fn compare_frames(rt: &impl Print) -> io::Result<Tally> {
+    let mut tally = Tally::default();
+    for shape in (0..24).map(|number| Shape::numbered(number)) {
         for character in 0..shape.characters() {
-            let own = digits(shape, character);
-            let said = match shape.library() {
-                Ok(format) => format.frame(character),
-                Err(_) => 0,
-            };
-            if tally.count(own == said) {
-                println!(rt;
-                    "{shape:?}, character {character:X}h: the library has the frame {said:b}, bit 0 last, and the other emulator {own:b}"
-                )?;
-            }
+            tally.count(rt, &Framed::run(shape, character))?;
         }
     }
     Ok(tally)
 }
 
-// A number on which the two sides differ.
+#[derive(Clone, Copy, Debug)]
+enum Time {
+    BitLength,
+    SampleClock,
+    BreakLength,
+}
+
+// A time on which the two sides differ.
 #[derive(Clone, Copy, Debug)]
 struct Odd {
-    what: &'static str,
-    place: usize,
+    time: Time,
+    place: u8,
     library: u32,
     own: u32,
 }
 
-// The first of the bit lengths, the sample clocks and the break length that differs.
-fn odd_time(shape: Shape, gear: Gear, timing: Timing) -> Option<Odd> {
-    let sender = BareSender::new(timing);
-    let receiver = BareReceiver::new(timing);
-    for place in 0..14usize {
-        let bit = place as u8;
-        let length = gear.start(bit + 1).saturating_sub(gear.start(bit));
-        let own = if bit < 13 { length } else { 0 };
-        let library = sender.bit_length(place);
+// The first place below a bound at which the library's number and our own differ.
+fn first_odd<F: Fn(u8) -> (u32, u32)>(time: Time, bound: u8, numbers: F) -> Option<Odd>
+    requires { F.IsAlwaysCallable numbers }
+{
+    for place in 0..bound {
+        let (library, own) = numbers(place);
         if library != own {
-            let what = "bit length";
             return Some(Odd {
-                what,
+                time,
                 place,
                 library,
                 own,
             });
         }
     }
-    for place in 0..37usize {
-        let bit = (place / 3) as u8;
-        let sampled = u16::from(bit) <= shape.first_stop();
-        let own = if sampled {
-            gear.samples(bit)[place % 3]
+    None
+}
+
+// An end's times in both emulators.
+#[derive(Drop)]
+struct Timed {
+    seed: u32,
+    end: End,
+    own: Result<(), Refusal>,
+    library: Result<(), Refusal>,
+    odd: Option<Odd>,
+}
+
+impl Timed {
+    fn run(seed: u32) -> Timed {
+        let mut dice = Dice::new(seed);
+        let shape = Shape::numbered(dice.below(24));
+        let end = End::new(shape, any_gear(&mut dice));
+        let timing = Timing::try_from(end);
+        let own = if end.gear.suits(shape) {
+            Ok(())
+        } else {
+            Err(Refusal::OutOfRange)
+        };
+        Timed {
+            seed,
+            end,
+            own,
+            library: timing.map(|_| ()),
+            odd: match timing {
+                Ok(timing) if own.is_ok() => odd_time(&end, timing),
+                _ => None,
+            },
+        }
+    }
+}
+
+// The first of the bit lengths, the sample clocks and the break length that differs.
+fn odd_time(end: &End, timing: Timing) -> Option<Odd> {
+    let sender = BareSender::new(timing);
+    let receiver = BareReceiver::new(timing);
+    let length = |bit: u8| {
+        let bit = usize::from(bit);
+        let own = end.start(bit + 1).saturating_sub(end.start(bit));
+        (sender.bit_length(bit), own)
+    };
+    let sample = |place: u8| {
+        let bit = usize::from(place / 3);
+        let own = if bit <= end.shape.first_stop() {
+            end.sampled(bit)[usize::from(place % 3)]
         } else {
             0
         };
-        let library = receiver.sample_clock(place);
-        if library != own {
-            let what = "sample clock";
-            return Some(Odd {
-                what,
-                place,
-                library,
-                own,
-            });
-        }
-    }
-    odd_number("break length", timing.break_length, gear.break_length())
+        (receiver.sample_clock(usize::from(place)), own)
+    };
+    let pause = |_: u8| (timing.break_length, end.gear.break_length());
+    first_odd(Time::BitLength, 14, length)
+        .or_else(|| first_odd(Time::SampleClock, 37, sample))
+        .or_else(|| first_odd(Time::BreakLength, 1, pause))
 }
 
-fn odd_number(what: &'static str, library: u32, own: u32) -> Option<Odd> {
-    if library == own {
-        return None;
+impl Case for Timed {
+    fn is_same(&self) -> bool {
+        agree(&self.own, &self.library) && self.odd.is_none()
     }
-    Some(Odd {
-        what,
-        place: 0,
-        library,
-        own,
-    })
+}
+
+impl fmt::Display for Timed {
+    fn fmt<W: fmt::Write>(&self, f: &mut fmt::Formatter<W>) -> fmt::Result {
+        let seed = self.seed;
+        writeln!(
+            f,
+            "seed {seed}, {}, {:?}: {:?}",
+            self.end.shape, self.end.gear, self.odd
+        )?;
+        writeln!(f, "  the library        {:?}", self.library)?;
+        writeln!(f, "  the other emulator {:?}", self.own)
+    }
 }
 
 // Settings of all sizes, a few of them out of range.
@@ -112,21 +186,10 @@ fn any_gear(dice: &mut Dice) -> Gear {
     }
 }
 
-pub fn compare_times(rt: &HostRuntime) -> io::Result<Tally> {
-    let mut tally = Tally::new();
+pub fn compare_times(rt: &impl Print) -> io::Result<Tally> {
+    let mut tally = Tally::default();
     for seed in 0..1200 {
-        let mut dice = Dice::new(seed);
-        let shape = Shape::numbered(dice.below(24));
-        let gear = any_gear(&mut dice);
-        let refused = if gear.suits(shape) { 0 } else { 1 };
-        let odd = match gear.library(shape) {
-            Ok(timing) if refused == 0 => odd_time(shape, gear, timing),
-            Ok(_) => odd_number("refusal", 0, refused),
-            Err(refusal) => odd_number("refusal", u32::from(refusal.number()), refused),
-        };
-        if tally.count(odd.is_none()) {
-            println!(rt; "seed {seed}, {shape:?}, {gear:?}: {odd:?}")?;
-        }
+        tally.count(rt, &Timed::run(seed))?;
     }
     Ok(tally)
 }

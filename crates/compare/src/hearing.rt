@@ -1,5 +1,7 @@
-// What a receiver takes down of a list of levels, one byte for each clock, found by looking up the clocks that count.
+// What a receiver takes down of a list of levels, one for each clock, found by looking up the clocks that count.
+use super::levels::byte_of;
 use super::times::End;
+use line::{Level, Parity};
 use std::alloc::{AllocError, Global};
 
 pub const OVERRUN: u8 = 1;
@@ -10,134 +12,136 @@ pub const FRAMING: u8 = 4;
 
 pub const BREAK: u8 = 8;
 
-// An entry, and the clock at which it arrives.
-#[derive(Clone, Copy)]
-pub struct Arrival {
-    pub clock: usize,
+// A character and its flags.
+#[derive(Clone, Copy, PartialEq, Debug)]
+pub struct Entry {
     pub character: u16,
     pub flags: u8,
 }
 
+// An entry, and the clock at which it arrives.
+#[derive(Clone, Copy)]
+pub struct Arrival {
+    pub clock: usize,
+    pub entry: Entry,
+}
+
 // What stands after an edge; a frame or a false start is over at its last clock.
 enum Seen {
-    CutOff,
     FalseStart { last: usize },
     Frame(Arrival),
 }
 
-// The first space at or after a clock that follows a mark.
-fn next_edge(levels: &[u8], from: usize) -> Option<usize> {
-    for i in from..levels.len() {
-        let before = match i {
-            0 => 1,
-            _ => levels[i - 1],
-        };
-        if before == 1 && levels[i] == 0 {
-            return Some(i);
-        }
+// The first space at or after a clock that follows a mark. The line is at mark before the first clock.
+fn next_edge(levels: &[Level], from: usize) -> Option<usize> {
+    if from == 0 && levels.first() == Some(&Level::Space) {
+        return Some(0);
     }
-    None
+    let mark = from.saturating_sub(1);
+    let place = levels
+        .get(mark..)?
+        .windows(2)
+        .position(|pair| pair == [Level::Mark, Level::Space].as_slice())?;
+    Some(mark.saturating_add(place).saturating_add(1))
 }
 
-// The majority of the levels at three clocks after an edge, if the last of them is there.
-fn vote(levels: &[u8], edge: usize, samples: [u32; 3]) -> Option<u8> {
-    let mut marks = 0u32;
-    for sample in samples {
-        match levels.get(edge.saturating_add(sample as usize)) {
-            None => return None,
-            Some(0) => {}
-            Some(_) => marks = marks.saturating_add(1),
-        }
-    }
-    Some(if marks >= 2 { 1 } else { 0 })
+// The majority of the levels at three clocks after an edge, if all of them are there.
+fn vote(levels: &[Level], edge: usize, samples: [u32; 3]) -> Option<Level> {
+    let at = |sample: u32| levels.get(edge.saturating_add(sample as usize)).copied();
+    let first = at(samples[0])?;
+    let second = at(samples[1])?;
+    let third = at(samples[2])?;
+    Some(if first == second || first == third {
+        first
+    } else {
+        second
+    })
 }
 
-// The character and the flags of a frame that was sampled as these levels.
-fn taken_down(end: &End, bits: [u8; 12], clock: usize) -> Arrival {
-    let width = end.shape.width();
-    let mut character = 0u16;
-    let mut value = 1u16;
-    let mut ones = 0u32;
-    for (k, bit) in bits.iter().enumerate().skip(1) {
-        let below_stop = k < end.shape.first_stop() as usize;
-        if below_stop && *bit == 1 {
-            ones = ones.saturating_add(1);
-        }
-        if k <= width as usize && *bit == 1 {
-            character = character.saturating_add(value);
-        }
-        value = value.saturating_mul(2);
-    }
-    let mut flags = 0;
-    match (end.shape.parity, ones % 2) {
-        (1, 0) | (2, 1) => flags = PARITY,
-        _ => {}
-    }
-    if bits.get(end.shape.first_stop() as usize) == Some(&0) {
-        flags |= FRAMING;
-    }
-    Arrival {
-        clock,
+// The entry of a frame that was sampled as these levels.
+fn taken_down(end: &End, bits: &[Level; 12]) -> Entry {
+    let stop = end.shape.first_stop();
+    let character = bits
+        .iter()
+        .skip(1)
+        .take(end.shape.width())
+        .rev()
+        .fold(0u16, |above, bit| {
+            above
+                .saturating_mul(2)
+                .saturating_add(u16::from(byte_of(*bit)))
+        });
+    let below_stop = bits.iter().take(stop).skip(1);
+    let marks = below_stop.filter(|bit| **bit == Level::Mark).count();
+    let wrong_parity = match end.shape.parity {
+        Parity::Absent => false,
+        Parity::Odd => marks % 2 == 0,
+        Parity::Even => marks % 2 == 1,
+    };
+    let parity = if wrong_parity { PARITY } else { 0 };
+    let framing = if bits.get(stop) == Some(&Level::Space) {
+        FRAMING
+    } else {
+        0
+    };
+    Entry {
         character,
-        flags,
+        flags: parity | framing,
     }
 }
 
-fn after_edge(end: &End, levels: &[u8], edge: usize) -> Seen {
-    let mut bits = [0; 12];
-    let stop = end.shape.first_stop() as usize;
-    for k in 0..12 {
-        let Some(bit) = vote(levels, edge, end.samples[k]) else {
-            return Seen::CutOff;
-        };
-        bits[k] = bit;
-        let last = edge.saturating_add(end.samples[k][2] as usize);
-        if k == 0 && bit == 1 {
-            return Seen::FalseStart { last };
-        }
-        if k == stop {
-            return Seen::Frame(taken_down(end, bits, last));
-        }
+// None where the levels end before the frame does.
+fn after_edge(end: &End, levels: &[Level], edge: usize) -> Option<Seen> {
+    if vote(levels, edge, end.sampled(0))? == Level::Mark {
+        let last = edge.saturating_add(end.sampled(0)[2] as usize);
+        return Some(Seen::FalseStart { last });
     }
-    Seen::CutOff
+    let stop = end.shape.first_stop();
+    let mut bits = [Level::Mark; 12];
+    let sampled = bits.iter_mut().zip(end.samples.iter());
+    for (bit, samples) in sampled.take(stop.saturating_add(1)) {
+        *bit = vote(levels, edge, *samples)?;
+    }
+    Some(Seen::Frame(Arrival {
+        clock: edge.saturating_add(end.sampled(stop)[2] as usize),
+        entry: taken_down(end, &bits),
+    }))
 }
 
 // Whether all these clocks were given, and are at space.
-fn stays_at_space(levels: &[u8], first: usize, last: usize) -> bool {
-    if last >= levels.len() {
-        return false;
-    }
-    for i in first..last.saturating_add(1) {
-        if levels.get(i) != Some(&0) {
-            return false;
-        }
-    }
-    true
+fn stays_at_space(levels: &[Level], first: usize, last: usize) -> bool {
+    levels
+        .get(first..last.saturating_add(1))
+        .is_some_and(|clocks| clocks.iter().all(|level| *level == Level::Space))
 }
 
 // All entries, by the clocks at which they arrive.
-pub fn heard(heap: Global, end: &End, levels: &[u8]) -> Result<Vec<Arrival>, AllocError> {
+pub fn heard(heap: Global, end: &End, levels: &[Level]) -> Result<Vec<Arrival>, AllocError> {
     let mut arrivals = Vec::new(heap);
     let mut from = 0;
+    // there are no more edges than levels
     for _ in 0..levels.len() {
         let Some(edge) = next_edge(levels, from) else {
             return Ok(arrivals);
         };
         let last = match after_edge(end, levels, edge) {
-            Seen::CutOff => return Ok(arrivals),
-            Seen::FalseStart { last } => last,
-            Seen::Frame(entry) => {
-                arrivals.push(entry)?;
-                let clock = entry.clock.saturating_add(end.gear.break_length() as usize);
+            None => return Ok(arrivals),
+            Some(Seen::FalseStart { last }) => last,
+            Some(Seen::Frame(arrival)) => {
+                arrivals.push(arrival)?;
+                let clock = arrival
+                    .clock
+                    .saturating_add(end.gear.break_length() as usize);
+                let framing = arrival.entry.flags & FRAMING != 0;
                 // where the last sample itself is a mark, a space after it begins a frame and is not counted
-                if entry.flags & FRAMING != 0 && stays_at_space(levels, entry.clock, clock) {
-                    arrivals.push(Arrival {
-                        clock,
+                if framing && stays_at_space(levels, arrival.clock, clock) {
+                    let entry = Entry {
                         character: 0,
                         flags: BREAK,
-                    })?;
+                    };
+                    arrivals.push(Arrival { clock, entry })?;
                 }
-                entry.clock
+                arrival.clock
             }
         };
         from = last.saturating_add(1);

@@ -1,11 +1,11 @@
 // The entries that a receiver has taken down and nobody has read.
-use super::hearing::OVERRUN;
+use super::hearing::{Entry, OVERRUN};
 use std::alloc::{AllocError, Global};
 use std::collections::VecDeque;
 
 #[derive(Drop)]
 pub struct Inbox {
-    unread: VecDeque<(u16, u8)>,
+    unread: VecDeque<Entry>,
     capacity: usize,
 }
 
@@ -17,18 +17,18 @@ impl Inbox {
         }
     }
 
-    pub fn arrive(&mut self, character: u16, flags: u8) -> Result<(), AllocError> {
-        let mut all = flags;
+    pub fn arrive(&mut self, entry: Entry) -> Result<(), AllocError> {
+        let mut all = entry;
         if self.unread.len() >= self.capacity {
-            if let Some((_, lost)) = self.unread.pop_back() {
-                all |= lost | OVERRUN;
+            if let Some(lost) = self.unread.pop_back() {
+                all.flags |= lost.flags | OVERRUN;
             }
         }
-        self.unread.push_back((character, all))?;
+        self.unread.push_back(all)?;
         Ok(())
     }
 
-    pub fn read(&mut self) -> Option<(u16, u8)> {
+    pub fn read(&mut self) -> Option<Entry> {
         self.unread.pop_front()
     }
 }

@@ -1,42 +1,32 @@
 // Links with all kinds of ends, bare or with queues.
 use super::acts::some_acts;
 use super::dice::Dice;
-use super::hearing::heard;
+use super::hearing::{Entry, heard};
 use super::inbox::Inbox;
-use super::said::{Said, first_difference};
+use super::levels::byte_of;
+use super::said::{Answer, Said, first_difference};
 use super::schedule::Schedule;
-use super::shape::Shape;
-use super::tally::Tally;
-use super::times::End;
+use super::tally::{Case, Tally};
+use super::times::Pair;
 use ends::{BareReceiver, BareSender, Receiver, Sender, Timing};
-use line::Refusal;
-use link::{Act, Answer, Link};
+use line::{Level, Refusal};
+use link::{Act, Link};
 use queue::{ReceiveQueue, SendQueue};
 use std::alloc::{AllocError, Global};
-use std::io;
+use std::fmt;
 
 // Two ends, and how many queues stand at each.
 #[derive(Clone, Copy)]
-struct Pair {
-    sender: End,
-    receiver: End,
+struct Setup {
+    pair: Pair,
     send_queues: u16,
     receive_queues: u16,
 }
 
-impl Pair {
-    fn new(dice: &mut Dice, number: u16) -> Pair {
-        let shape = Shape::numbered(number % 24);
-        let other = match dice.below(25) {
-            0 => Shape::numbered(dice.below(24)),
-            _ => Shape {
-                stops: (dice.below(2) % 2) as u8 + 1,
-                ..shape
-            },
-        };
-        Pair {
-            sender: End::short(dice, shape),
-            receiver: End::short(dice, other),
+impl Setup {
+    fn random(dice: &mut Dice, number: u16) -> Setup {
+        Setup {
+            pair: Pair::short(dice, number, 25),
             send_queues: dice.below(3),
             receive_queues: dice.below(3),
         }
@@ -48,72 +38,77 @@ fn capacity(queues: u16) -> usize {
     16 * queues as usize + 1
 }
 
-// The answers to all acts but the reads, and what the receiver hears.
-fn sending(
-    heap: Global,
-    pair: &Pair,
-    acts: &[Act],
-    levels: &mut Vec<u8>,
-) -> Result<Vec<Said>, AllocError> {
-    let mut answers = Vec::new(heap);
-    let mut schedule = Schedule::new(heap, pair.sender);
-    let mut clock = 0u32;
-    let mut line = 1;
-    for act in acts {
-        let answer = match *act {
-            Act::Load(character) => {
-                if !pair.sender.shape.agrees(pair.receiver.shape) {
-                    Said::Refused(5)
-                } else if character >= pair.sender.shape.characters() {
-                    Said::Refused(2)
-                } else if schedule.waiting(clock) >= capacity(pair.send_queues) {
-                    Said::Refused(3)
-                } else {
-                    schedule.add(clock, character)?;
-                    Said::Done
-                }
-            }
-            Act::Send => {
-                line = schedule.level(clock);
-                clock = clock.saturating_add(1);
-                Said::Line(line)
-            }
-            Act::Receive => {
-                levels.push(line)?;
-                Said::Done
-            }
-            Act::Noise(level) => {
-                levels.push(level.byte())?;
-                Said::Done
-            }
-            Act::Read => Said::Refused(4),
-        };
-        answers.push(answer)?;
-    }
-    Ok(answers)
+// The side that sends: the clocks that it was given, what was on the line last, and what the receiver hears.
+#[derive(Drop)]
+struct Sending {
+    schedule: Schedule,
+    clock: u32,
+    line: Level,
+    levels: Vec<Level>,
 }
 
-fn by_times(heap: Global, pair: &Pair, acts: &[Act]) -> Result<Vec<Said>, AllocError> {
-    let mut levels = Vec::new(heap);
-    let mut answers = sending(heap, pair, acts, &mut levels)?;
-    let arrivals = heard(heap, &pair.receiver, levels.as_slice())?;
-    let mut inbox = Inbox::new(heap, capacity(pair.receive_queues));
-    let mut next = 0usize;
+impl Sending {
+    fn new(heap: Global, pair: &Pair) -> Sending {
+        Sending {
+            schedule: Schedule::new(heap, pair.sender),
+            clock: 0,
+            line: Level::Mark,
+            levels: Vec::new(heap),
+        }
+    }
+
+    fn load(&mut self, setup: &Setup, character: u16) -> Result<Answer, AllocError> {
+        if !setup.pair.agrees() {
+            return Ok(Err(Refusal::FormatsDiffer));
+        }
+        if character >= setup.pair.sender.shape.characters() {
+            return Ok(Err(Refusal::TooWide));
+        }
+        if self.schedule.waiting(self.clock) >= capacity(setup.send_queues) {
+            return Ok(Err(Refusal::Full));
+        }
+        self.schedule.add(self.clock, character)?;
+        Ok(Ok(Said::Done))
+    }
+
+    // The answer to any act but a read.
+    fn answer(&mut self, setup: &Setup, act: Act) -> Result<Answer, AllocError> {
+        match act {
+            Act::Load(character) => return self.load(setup, character),
+            Act::Send => {
+                self.line = self.schedule.level(self.clock);
+                self.clock = self.clock.saturating_add(1);
+                return Ok(Ok(Said::Line(self.line)));
+            }
+            Act::Receive => self.levels.push(self.line)?,
+            Act::Noise(level) => self.levels.push(level)?,
+            Act::Read => return Ok(Err(Refusal::NothingUnread)),
+        }
+        Ok(Ok(Said::Done))
+    }
+}
+
+fn by_times(heap: Global, setup: &Setup, acts: &[Act]) -> Result<Vec<Answer>, AllocError> {
+    let mut sending = Sending::new(heap, &setup.pair);
+    let mut answers = Vec::new(heap);
+    for act in acts {
+        answers.push(sending.answer(setup, *act)?)?;
+    }
+    let entries = heard(heap, &setup.pair.receiver, sending.levels.as_slice())?;
+    let mut arrivals = entries.iter().peekable();
+    let mut inbox = Inbox::new(heap, capacity(setup.receive_queues));
     let mut clock = 0usize;
     for (act, answer) in acts.iter().zip(answers.iter_mut()) {
         match *act {
             Act::Receive | Act::Noise(_) => {
-                if let Some(entry) = arrivals.get(next) {
-                    if entry.clock == clock {
-                        inbox.arrive(entry.character, entry.flags)?;
-                        next = next.saturating_add(1);
-                    }
+                if let Some(arrival) = arrivals.next_if(|arrival| arrival.clock == clock) {
+                    inbox.arrive(arrival.entry)?;
                 }
                 clock = clock.saturating_add(1);
             }
             Act::Read => {
-                if let Some((character, flags)) = inbox.read() {
-                    *answer = Said::Entry(character, flags);
+                if let Some(entry) = inbox.read() {
+                    *answer = Ok(Said::Entry(entry));
                 }
             }
             _ => {}
@@ -122,13 +117,12 @@ fn by_times(heap: Global, pair: &Pair, acts: &[Act]) -> Result<Vec<Said>, AllocE
     Ok(answers)
 }
 
-fn told(answer: Result<Answer, Refusal>) -> Said {
-    match answer {
-        Ok(Answer::Done) => Said::Done,
-        Ok(Answer::Line(level)) => Said::Line(level.byte()),
-        Ok(Answer::Entry(character, flags)) => Said::Entry(character, flags),
-        Err(refusal) => Said::Refused(refusal.number()),
-    }
+fn told(answer: Result<link::Answer, Refusal>) -> Answer {
+    Ok(match answer? {
+        link::Answer::Done => Said::Done,
+        link::Answer::Line(level) => Said::Line(level),
+        link::Answer::Entry(character, flags) => Said::Entry(Entry { character, flags }),
+    })
 }
 
 // The first half of the acts in one call, the others one by one.
@@ -137,28 +131,29 @@ fn answered<S: Sender + Drop, R: Receiver + Drop>(
     sender: S,
     receiver: R,
     acts: &[Act],
-) -> Result<Vec<Said>, AllocError> {
+) -> Result<Vec<Answer>, AllocError> {
     let mut link = Link::join(sender, receiver);
-    let half = acts.len() / 2;
-    let mut answers = vec![in heap; Ok(Answer::Done); half]?;
-    let _ = link.run(&acts[0..half], answers.as_mut_slice());
-    let mut all = Vec::new(heap);
-    for answer in answers.iter() {
-        all.push(told(*answer))?;
-    }
-    for act in &acts[half..] {
+    let (first, others) = acts.split_at(acts.len() / 2);
+    let mut answers = vec![in heap; Ok(link::Answer::Done); first.len()]?;
+    let _ = link.run(first, answers.as_mut_slice());
+    let mut all = answers
+        .iter()
+        .map(|answer| told(*answer))
+        .collect::<Vec<Answer>>(heap)?;
+    for act in others {
         all.push(told(link.act(*act)))?;
     }
     Ok(all)
 }
 
+// How many queues there are is a number, and each count of them another type: so each is named once at both ends.
 fn sent_from<S: Sender + Drop>(
     heap: Global,
     sender: S,
     to: Timing,
     receive_queues: u16,
     acts: &[Act],
-) -> Result<Vec<Said>, AllocError> {
+) -> Result<Vec<Answer>, AllocError> {
     let bare = BareReceiver::new(to);
     match receive_queues {
         0 => answered(heap, sender, bare, acts),
@@ -174,64 +169,96 @@ fn sent_from<S: Sender + Drop>(
 
 fn by_library(
     heap: Global,
-    pair: &Pair,
+    setup: &Setup,
     from: Timing,
     to: Timing,
     acts: &[Act],
-) -> Result<Vec<Said>, AllocError> {
+) -> Result<Vec<Answer>, AllocError> {
     let bare = BareSender::new(from);
-    let behind = pair.receive_queues;
-    match pair.send_queues {
+    let behind = setup.receive_queues;
+    match setup.send_queues {
         0 => sent_from(heap, bare, to, behind, acts),
         1 => sent_from(heap, SendQueue::new(bare), to, behind, acts),
         _ => sent_from(heap, SendQueue::new(SendQueue::new(bare)), to, behind, acts),
     }
 }
 
-// S and R are send and receive clocks, N a noise clock with its level.
-fn print_acts(rt: &HostRuntime, acts: &[Act]) -> io::Result<()> {
-    for act in acts {
-        match *act {
-            Act::Load(character) => print!(rt; " load {character:X}h ")?,
-            Act::Send => print!(rt; "S")?,
-            Act::Receive => print!(rt; "R")?,
-            Act::Noise(level) => print!(rt; "N{}", level.byte())?,
-            Act::Read => print!(rt; " read ")?,
-        }
-    }
-    println!(rt; "")
+// The answers of both emulators, and the first place where they differ.
+#[derive(Drop)]
+struct Linked {
+    seed: u16,
+    setup: Setup,
+    acts: Vec<Act>,
+    own: Vec<Answer>,
+    library: Vec<Answer>,
+    difference: Option<usize>,
 }
 
-pub fn compare(rt: &HostRuntime) -> anyhow::Result<Tally> {
-    let mut tally = Tally::new();
-    for seed in 0..2400u16 {
+impl Linked {
+    // None where the library refuses the settings of an end.
+    fn run(heap: Global, seed: u16) -> Result<Option<Linked>, AllocError> {
         let mut dice = Dice::new(u32::from(seed));
-        let pair = Pair::new(&mut dice, seed);
-        let Ok(from) = pair.sender.gear.library(pair.sender.shape) else {
-            continue;
+        let setup = Setup::random(&mut dice, seed);
+        let Ok((from, to)) = setup.pair.timings() else {
+            return Ok(None);
         };
-        let Ok(to) = pair.receiver.gear.library(pair.receiver.shape) else {
-            continue;
-        };
-        let acts = some_acts(rt.alloc(), &mut dice, &pair.sender, &pair.receiver)?;
-        let own = by_times(rt.alloc(), &pair, acts.as_slice())?;
-        let library = by_library(rt.alloc(), &pair, from, to, acts.as_slice())?;
+        let acts = some_acts(heap, &mut dice, &setup.pair)?;
+        let own = by_times(heap, &setup, acts.as_slice())?;
+        let library = by_library(heap, &setup, from, to, acts.as_slice())?;
         let difference = first_difference(own.as_slice(), library.as_slice());
-        if tally.count(difference.is_none()) {
-            let place = difference.unwrap_or(0);
-            println!(rt;
-                "seed {seed}, sender {:?}, {:?}, {} queues",
-                pair.sender.shape, pair.sender.gear, pair.send_queues
-            )?;
-            println!(rt;
-                "  receiver {:?}, {:?}, {} queues",
-                pair.receiver.shape, pair.receiver.gear, pair.receive_queues
-            )?;
-            print!(rt; "  acts ")?;
-            print_acts(rt, acts.as_slice())?;
-            println!(rt; "  to act {place}, counted from 0:")?;
-            println!(rt; "  the library        {:?}", library.get(place))?;
-            println!(rt; "  the other emulator {:?}", own.get(place))?;
+        Ok(Some(Linked {
+            seed,
+            setup,
+            acts,
+            own,
+            library,
+            difference,
+        }))
+    }
+}
+
+impl Case for Linked {
+    fn is_same(&self) -> bool {
+        self.difference.is_none()
+    }
+}
+
+// S and R are send and receive clocks, N a noise clock with its level.
+fn write_act<W: fmt::Write>(f: &mut fmt::Formatter<W>, act: Act) -> fmt::Result {
+    match act {
+        Act::Load(character) => write!(f, " load {character:X}h "),
+        Act::Send => write!(f, "S"),
+        Act::Receive => write!(f, "R"),
+        Act::Noise(level) => write!(f, "N{}", byte_of(level)),
+        Act::Read => write!(f, " read "),
+    }
+}
+
+impl fmt::Display for Linked {
+    fn fmt<W: fmt::Write>(&self, f: &mut fmt::Formatter<W>) -> fmt::Result {
+        let seed = self.seed;
+        let place = self.difference.unwrap_or(0);
+        let Setup {
+            pair,
+            send_queues,
+            receive_queues,
+        } = self.setup;
+        writeln!(f, "seed {seed}, {pair}")?;
+        write!(f, "  {send_queues} and {receive_queues} queues, acts ")?;
+        for act in self.acts.iter() {
+            write_act(f, *act)?;
+        }
+        writeln!(f, ", to act {place}, counted from 0:")?;
+        writeln!(f, "  the library        {:?}", self.library.get(place))?;
+        writeln!(f, "  the other emulator {:?}", self.own.get(place))
+    }
+}
+
+pub fn compare(rt: &(impl Print + AllocGlobal)) -> anyhow::Result<Tally> {
+    let mut tally = Tally::default();
+    for seed in 0..2400 {
+        if let Some(case) = Linked::run(rt.alloc(), seed)? {
+            tally.count(rt, &case)?;
         }
     }
     Ok(tally)

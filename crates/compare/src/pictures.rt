@@ -1,10 +1,15 @@
 // Pictures drawn.
 use super::dice::Dice;
+use super::levels::byte_of;
+use super::said::agree;
 use super::shape::Shape;
-use super::tally::Tally;
+use super::tally::{Case, Tally};
 use super::times::End;
+use ends::Timing;
+use line::Refusal;
 use picture::draw;
 use std::alloc::{AllocError, Global};
+use std::fmt;
 
 // Stands where a picture must be left alone.
 const KEPT: u8 = 9;
@@ -16,66 +21,113 @@ fn some_characters(
     dice: &mut Dice,
     seed: u16,
 ) -> Result<Vec<u16>, AllocError> {
-    let mut characters = Vec::new(heap);
     let (count, wide) = match seed {
         0 => (4096, 0),
         1 => (4097, 0),
         _ => (dice.below(5), 40),
     };
-    for _ in 0..count {
-        characters.push(shape.character(dice, wide))?;
-    }
-    Ok(characters)
+    (0..count)
+        .map(|_| shape.character(dice, wide))
+        .collect(heap)
 }
 
-// The number of the refusal, or else 0 and the picture drawn.
-fn drawn(end: &End, characters: &[u16], picture: &mut [u8]) -> u8 {
-    for character in characters {
-        if *character >= end.shape.characters() {
-            return 2;
-        }
+// How many clocks are drawn.
+fn by_levels(end: &End, characters: &[u16], picture: &mut [u8]) -> Result<usize, Refusal> {
+    let all = end.shape.characters();
+    if characters.iter().any(|character| *character >= all) {
+        return Err(Refusal::TooWide);
     }
     let clocks = end.frame_clocks.max(1) as usize;
-    if characters.len() > 4096 || clocks.saturating_mul(characters.len()) > picture.len() {
-        return 6;
+    let needed = clocks.saturating_mul(characters.len());
+    if characters.len() > 4096 || needed > picture.len() {
+        return Err(Refusal::TooShort);
     }
-    for (i, byte) in picture.iter_mut().enumerate() {
-        if let Some(character) = characters.get(i / clocks) {
-            *byte = end.level(*character, (i % clocks) as u32);
+    for (character, frame) in characters.iter().zip(picture.chunks_exact_mut(clocks)) {
+        for (clock, byte) in (0..end.frame_clocks).zip(frame.iter_mut()) {
+            *byte = byte_of(end.level(*character, clock));
         }
     }
-    0
+    Ok(needed)
 }
 
-pub fn compare(rt: &HostRuntime) -> anyhow::Result<Tally> {
-    let mut tally = Tally::new();
-    for seed in 0..2400u16 {
+// A picture in both emulators, with what each answers.
+#[derive(Drop)]
+struct Drawn {
+    seed: u16,
+    end: End,
+    characters: Vec<u16>,
+    own: Result<usize, Refusal>,
+    own_picture: Vec<u8>,
+    library: Result<usize, Refusal>,
+    library_picture: Vec<u8>,
+}
+
+impl Drawn {
+    // None where the library refuses the settings.
+    fn run(heap: Global, seed: u16) -> Result<Option<Drawn>, AllocError> {
         let mut dice = Dice::new(u32::from(seed));
         let end = End::short(&mut dice, Shape::numbered(seed % 24));
-        let Ok(timing) = end.gear.library(end.shape) else {
-            continue;
+        let Ok(timing) = Timing::try_from(end) else {
+            return Ok(None);
         };
-        let characters = some_characters(rt.alloc(), end.shape, &mut dice, seed)?;
+        let characters = some_characters(heap, end.shape, &mut dice, seed)?;
         let needed = characters.len().saturating_mul(end.frame_clocks as usize);
         // sometimes a byte too short
         let places = needed
             .saturating_add(dice.below(12) as usize)
             .saturating_sub(1);
-        let mut own = vec![in rt.alloc(); KEPT; places]?;
-        let mut library = vec![in rt.alloc(); KEPT; places]?;
-        let own_answer = drawn(&end, characters.as_slice(), own.as_mut_slice());
-        let answer = match draw(&timing, characters.as_slice(), library.as_mut_slice()) {
-            Ok(clocks) if clocks == needed => 0,
-            Ok(_) => 255,
-            Err(refusal) => refusal.number(),
-        };
-        if tally.count(own_answer == answer && own == library) {
-            println!(rt;
-                "seed {seed}, {:?}, {:?}, characters {characters:?}, {places} places",
-                end.shape, end.gear
-            )?;
-            println!(rt; "  the library       {answer} {library:?}")?;
-            println!(rt; "  the other emulator {own_answer} {own:?}")?;
+        let mut own_picture = vec![in heap; KEPT; places]?;
+        let mut library_picture = vec![in heap; KEPT; places]?;
+        let own = by_levels(&end, characters.as_slice(), own_picture.as_mut_slice());
+        let library = draw(
+            &timing,
+            characters.as_slice(),
+            library_picture.as_mut_slice(),
+        );
+        Ok(Some(Drawn {
+            seed,
+            end,
+            characters,
+            own,
+            own_picture,
+            library,
+            library_picture,
+        }))
+    }
+}
+
+impl Case for Drawn {
+    fn is_same(&self) -> bool {
+        agree(&self.own, &self.library) && self.own_picture == self.library_picture
+    }
+}
+
+impl fmt::Display for Drawn {
+    fn fmt<W: fmt::Write>(&self, f: &mut fmt::Formatter<W>) -> fmt::Result {
+        let seed = self.seed;
+        writeln!(
+            f,
+            "seed {seed}, {}, characters {:?}",
+            self.end, self.characters
+        )?;
+        writeln!(
+            f,
+            "  the library        {:?} {:?}",
+            self.library, self.library_picture
+        )?;
+        writeln!(
+            f,
+            "  the other emulator {:?} {:?}",
+            self.own, self.own_picture
+        )
+    }
+}
+
+pub fn compare(rt: &(impl Print + AllocGlobal)) -> anyhow::Result<Tally> {
+    let mut tally = Tally::default();
+    for seed in 0..2400 {
+        if let Some(case) = Drawn::run(rt.alloc(), seed)? {
+            tally.count(rt, &case)?;
         }
     }
     Ok(tally)

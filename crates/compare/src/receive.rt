@@ -2,10 +2,23 @@
 use super::address;
 use super::hearing::{BREAK, FRAMING, PARITY};
 use super::transmit::Received;
+use line::DataBits;
 
 const ERRORS: u8 = address::FE | address::PE | address::OE | address::BRK;
 
 const ENABLES: u8 = address::URXEIE | address::URXWIE;
+
+// The bits in URCTL for an entry's flags.
+fn errors(flags: u8) -> u8 {
+    let bits = [
+        (FRAMING, address::FE),
+        (PARITY, address::PE),
+        (BREAK, address::BRK),
+    ];
+    bits.iter()
+        .filter(|(flag, _)| flags & *flag != 0)
+        .fold(0u8, |errors, (_, bit)| errors | *bit)
+}
 
 #[derive(Clone, Copy)]
 pub struct Receive {
@@ -24,29 +37,23 @@ impl Receive {
         }
     }
 
-    pub fn arrive(&mut self, entry: Received) {
-        let shape = entry.shape;
-        let values = 1u16 << (shape.data % 16);
+    pub fn arrive(&mut self, received: Received) {
+        let Received { shape, entry, .. } = received;
+        let values = match shape.data {
+            DataBits::Seven => 128,
+            DataBits::Eight => 256,
+        };
         let addressed = entry.character >= values;
-        if shape.address == 1 && self.urctl & address::URXWIE != 0 && !addressed {
+        if shape.address && self.urctl & address::URXWIE != 0 && !addressed {
             return;
         }
-        let mut errors = 0;
-        if entry.flags & FRAMING != 0 {
-            errors |= address::FE;
-        }
-        if entry.flags & PARITY != 0 {
-            errors |= address::PE;
-        }
-        if entry.flags & BREAK != 0 {
-            errors |= address::BRK;
-        }
+        let errors = errors(entry.flags);
         self.urctl |= errors;
         if errors != 0 && self.urctl & address::URXEIE == 0 {
             return;
         }
-        self.urxbuf = (entry.character % values.clamp(1, 256)) as u8;
-        if shape.address == 1 {
+        self.urxbuf = (entry.character % values) as u8;
+        if shape.address {
             self.urctl &= !address::RXWAKE;
             if addressed {
                 self.urctl |= address::RXWAKE;

@@ -1,11 +1,17 @@
-// Pictures scanned: clean ones, spoiled ones and random ones.
+// Pictures scanned: clean ones, spoiled ones and random ones. A picture is bytes here, since one in it may be no level.
 use super::dice::Dice;
-use super::hearing::heard;
+use super::hearing::{Arrival, heard};
+use super::levels::{byte_of, level_of};
+use super::said::agree;
 use super::shape::Shape;
-use super::tally::Tally;
+use super::tally::{Case, Tally};
 use super::times::End;
+use ends::Timing;
+use line::{Level, Refusal};
 use picture::scan;
 use std::alloc::{AllocError, Global};
+use std::fmt;
+use std::iter::repeat_n;
 
 // Stands where a list must be left alone.
 const KEPT: (u16, u8) = (999, 99);
@@ -15,16 +21,10 @@ fn frames(heap: Global, end: &End, dice: &mut Dice) -> Result<Vec<u8>, AllocErro
     let mut picture = Vec::new(heap);
     for _ in 0..dice.below(4) {
         let character = end.shape.character(dice, 0);
-        for _ in 0..dice.below(12) {
-            picture.push(1)?;
-        }
-        for clock in 0..end.frame_clocks {
-            picture.push(end.level(character, clock))?;
-        }
+        picture.extend(repeat_n(1, usize::from(dice.below(12))))?;
+        picture.extend((0..end.frame_clocks).map(|clock| byte_of(end.level(character, clock))))?;
     }
-    for _ in 0..dice.below(4) {
-        picture.push(1)?;
-    }
+    picture.extend(repeat_n(1, usize::from(dice.below(4))))?;
     Ok(picture)
 }
 
@@ -34,7 +34,7 @@ fn spoil(picture: &mut [u8], dice: &mut Dice, longest: u16) {
     for _ in 0..dice.below(5).saturating_add(1) {
         let first = dice.below(length) as usize;
         let run = dice.below(longest) as usize;
-        let level = (dice.below(2) % 2) as u8;
+        let level = if dice.one_in(2) { 0 } else { 1 };
         for byte in picture.iter_mut().skip(first).take(run) {
             *byte = level;
         }
@@ -46,9 +46,7 @@ fn runs(heap: Global, dice: &mut Dice, longest: u16) -> Result<Vec<u8>, AllocErr
     let mut picture = Vec::new(heap);
     for i in 0..dice.below(20) {
         let bound = dice.below(longest).saturating_add(1);
-        for _ in 0..dice.below(bound) {
-            picture.push((i % 2) as u8)?;
-        }
+        picture.extend(repeat_n((i % 2) as u8, usize::from(dice.below(bound))))?;
     }
     Ok(picture)
 }
@@ -56,8 +54,7 @@ fn runs(heap: Global, dice: &mut Dice, longest: u16) -> Result<Vec<u8>, AllocErr
 // Long spaces with short marks between them: some reach just to a frame's last sample, some are about as long as a break.
 fn breaks(heap: Global, end: &End, dice: &mut Dice) -> Result<Vec<u8>, AllocError> {
     let mut picture = Vec::new(heap);
-    let stop = end.samples.get(end.shape.first_stop() as usize);
-    let to_stop = stop.copied().unwrap_or([0; 3])[2];
+    let to_stop = end.sampled(end.shape.first_stop())[2];
     let to_break = to_stop.saturating_add(end.gear.break_length());
     for _ in 0..dice.below(4).saturating_add(2) {
         let few = u32::from(dice.below(3));
@@ -66,12 +63,9 @@ fn breaks(heap: Global, end: &End, dice: &mut Dice) -> Result<Vec<u8>, AllocErro
             1 => few.saturating_add(to_break),
             _ => u32::from(dice.below(300)) % to_break.max(1),
         };
-        for _ in 0..spaces {
-            picture.push(0)?;
-        }
-        for _ in 0..dice.below(3).saturating_add(1) {
-            picture.push(1)?;
-        }
+        picture.extend(repeat_n(0, spaces as usize))?;
+        let marks = dice.below(3).saturating_add(1);
+        picture.extend(repeat_n(1, usize::from(marks)))?;
     }
     Ok(picture)
 }
@@ -97,60 +91,108 @@ pub fn some_picture(heap: Global, end: &End, dice: &mut Dice) -> Result<Vec<u8>,
         }
     };
     if dice.one_in(50) {
-        let first = dice.below(200) as usize;
-        for byte in picture.iter_mut().skip(first).take(1) {
+        let place = dice.below(200) as usize;
+        if let Some(byte) = picture.get_mut(place) {
             *byte = 2;
         }
     }
     Ok(picture)
 }
 
-// How many entries are listed, or the number of the refusal.
-fn listed(
-    heap: Global,
-    end: &End,
-    picture: &[u8],
-    entries: &mut [(u16, u8)],
-) -> Result<Result<usize, u8>, AllocError> {
-    for byte in picture {
-        if *byte > 1 {
-            return Ok(Err(7));
-        }
-    }
-    let arrivals = heard(heap, end, picture)?;
-    if arrivals.len() > entries.len() {
-        return Ok(Err(6));
-    }
-    for (entry, arrival) in entries.iter_mut().zip(arrivals.iter()) {
-        *entry = (arrival.character, arrival.flags);
-    }
-    Ok(Ok(arrivals.len()))
+// The levels of a picture's bytes; any but 0 and 1 counts as a mark.
+pub fn levels(heap: Global, picture: &[u8]) -> Result<Vec<Level>, AllocError> {
+    picture
+        .iter()
+        .map(|byte| level_of(u32::from((*byte).min(1))))
+        .collect(heap)
 }
 
-pub fn compare(rt: &HostRuntime) -> anyhow::Result<Tally> {
-    let mut tally = Tally::new();
-    for seed in 0..4800u16 {
+// How many entries are listed.
+fn listed(
+    picture: &[u8],
+    arrivals: &[Arrival],
+    entries: &mut [(u16, u8)],
+) -> Result<usize, Refusal> {
+    if picture.iter().any(|byte| *byte > 1) {
+        return Err(Refusal::NotALevel);
+    }
+    if arrivals.len() > entries.len() {
+        return Err(Refusal::TooShort);
+    }
+    for (place, arrival) in entries.iter_mut().zip(arrivals.iter()) {
+        *place = (arrival.entry.character, arrival.entry.flags);
+    }
+    Ok(arrivals.len())
+}
+
+// A list of entries in both emulators, with what each answers.
+#[derive(Drop)]
+struct Scanned {
+    seed: u16,
+    end: End,
+    picture: Vec<u8>,
+    own: Result<usize, Refusal>,
+    own_list: Vec<(u16, u8)>,
+    library: Result<usize, Refusal>,
+    library_list: Vec<(u16, u8)>,
+}
+
+impl Scanned {
+    // None where the library refuses the settings.
+    fn run(heap: Global, seed: u16) -> Result<Option<Scanned>, AllocError> {
         let mut dice = Dice::new(u32::from(seed));
         let end = End::short(&mut dice, Shape::numbered(seed % 24));
-        let Ok(timing) = end.gear.library(end.shape) else {
-            continue;
+        let Ok(timing) = Timing::try_from(end) else {
+            return Ok(None);
         };
-        let picture = some_picture(rt.alloc(), &end, &mut dice)?;
+        let picture = some_picture(heap, &end, &mut dice)?;
         let places = if dice.one_in(10) { 2 } else { 40 };
-        let mut own = vec![in rt.alloc(); KEPT; places]?;
-        let mut library = vec![in rt.alloc(); KEPT; places]?;
-        let own_answer = listed(rt.alloc(), &end, picture.as_slice(), own.as_mut_slice())?;
-        let answer = match scan(&timing, picture.as_slice(), library.as_mut_slice()) {
-            Ok(count) => Ok(count),
-            Err(refusal) => Err(refusal.number()),
-        };
-        if tally.count(own_answer == answer && own == library) {
-            println!(rt;
-                "seed {seed}, {:?}, {:?}, picture {picture:?}",
-                end.shape, end.gear
-            )?;
-            println!(rt; "  the library        {answer:?} {library:?}")?;
-            println!(rt; "  the other emulator {own_answer:?} {own:?}")?;
+        let mut own_list = vec![in heap; KEPT; places]?;
+        let mut library_list = vec![in heap; KEPT; places]?;
+        let levels = levels(heap, picture.as_slice())?;
+        let arrivals = heard(heap, &end, levels.as_slice())?;
+        let own = listed(
+            picture.as_slice(),
+            arrivals.as_slice(),
+            own_list.as_mut_slice(),
+        );
+        let library = scan(&timing, picture.as_slice(), library_list.as_mut_slice());
+        Ok(Some(Scanned {
+            seed,
+            end,
+            picture,
+            own,
+            own_list,
+            library,
+            library_list,
+        }))
+    }
+}
+
+impl Case for Scanned {
+    fn is_same(&self) -> bool {
+        agree(&self.own, &self.library) && self.own_list == self.library_list
+    }
+}
+
+impl fmt::Display for Scanned {
+    fn fmt<W: fmt::Write>(&self, f: &mut fmt::Formatter<W>) -> fmt::Result {
+        let seed = self.seed;
+        writeln!(f, "seed {seed}, {}, picture {:?}", self.end, self.picture)?;
+        writeln!(
+            f,
+            "  the library        {:?} {:?}",
+            self.library, self.library_list
+        )?;
+        writeln!(f, "  the other emulator {:?} {:?}", self.own, self.own_list)
+    }
+}
+
+pub fn compare(rt: &(impl Print + AllocGlobal)) -> anyhow::Result<Tally> {
+    let mut tally = Tally::default();
+    for seed in 0..4800 {
+        if let Some(case) = Scanned::run(rt.alloc(), seed)? {
+            tally.count(rt, &case)?;
         }
     }
     Ok(tally)

@@ -1,5 +1,6 @@
 // What a sender puts on the line: when each frame begins on the axis of the send clocks, which count from 0.
 use super::times::End;
+use line::Level;
 use std::alloc::{AllocError, Global};
 
 #[derive(Clone, Copy)]
@@ -24,21 +25,17 @@ impl Schedule {
 
     // The first clock after all frames.
     fn free(&self) -> u32 {
-        match self.frames.last() {
-            Some(frame) => frame.begin.saturating_add(self.end.frame_clocks),
-            None => 0,
-        }
+        let clocks = self.end.frame_clocks;
+        let last = self.frames.last();
+        last.map_or(0, |frame| frame.begin.saturating_add(clocks))
     }
 
     // How many characters have not begun before this clock.
     pub fn waiting(&self, clock: u32) -> usize {
-        let mut count = 0usize;
-        for frame in self.frames.iter() {
-            if frame.begin >= clock {
-                count = count.saturating_add(1);
-            }
-        }
-        count
+        self.frames
+            .iter()
+            .filter(|frame| frame.begin >= clock)
+            .count()
     }
 
     // Whether nothing is left of any frame before this clock.
@@ -54,12 +51,11 @@ impl Schedule {
     }
 
     // The level at a clock.
-    pub fn level(&self, clock: u32) -> u8 {
-        for frame in self.frames.iter().rev() {
-            if frame.begin <= clock {
-                return self.end.level(frame.character, clock - frame.begin);
-            }
-        }
-        1
+    pub fn level(&self, clock: u32) -> Level {
+        let begun = self.frames.iter().rev().find(|frame| frame.begin <= clock);
+        begun.map_or(Level::Mark, |frame| {
+            self.end
+                .level(frame.character, clock.saturating_sub(frame.begin))
+        })
     }
 }

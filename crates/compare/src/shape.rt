@@ -1,47 +1,89 @@
 // Formats, and the level that each bit of a frame has.
 use super::dice::Dice;
-use line::{Format, Refusal};
+use super::levels::level_of;
+use line::{DataBits, Format, Level, Parity, Refusal, StopBits};
+use std::fmt;
 
-// The numbers of bits; parity is 0 for none, 1 for odd, 2 for even.
-#[derive(Clone, Copy, Debug)]
+// A format in the library's words. What they mean is written apart from it.
+#[derive(Clone, Copy, PartialEq)]
 pub struct Shape {
-    pub data: u8,
-    pub address: u8,
-    pub parity: u8,
-    pub stops: u8,
+    pub data: DataBits,
+    pub address: bool,
+    pub parity: Parity,
+    pub stops: StopBits,
 }
 
 impl Shape {
     // Each of the 24 has a number below 24.
     pub fn numbered(number: u16) -> Shape {
         Shape {
-            data: if number % 2 == 0 { 7 } else { 8 },
-            address: (number / 2 % 2) as u8,
-            parity: (number / 4 % 3) as u8,
-            stops: if number / 12 % 2 == 0 { 1 } else { 2 },
+            data: if number % 2 == 0 {
+                DataBits::Seven
+            } else {
+                DataBits::Eight
+            },
+            address: number / 2 % 2 == 1,
+            parity: match number / 4 % 3 {
+                0 => Parity::Absent,
+                1 => Parity::Odd,
+                _ => Parity::Even,
+            },
+            stops: if number / 12 % 2 == 0 {
+                StopBits::One
+            } else {
+                StopBits::Two
+            },
         }
     }
 
-    pub fn library(self) -> Result<Format, Refusal> {
-        Format::from_numbers(self.data, self.address, self.parity, self.stops)
+    // A format for the other end: it agrees, but once in so many times it is any.
+    pub fn partner(self, dice: &mut Dice, strange: u16) -> Shape {
+        if dice.one_in(strange) {
+            return Shape::numbered(dice.below(24));
+        }
+        let stops = if dice.one_in(2) {
+            StopBits::One
+        } else {
+            StopBits::Two
+        };
+        Shape { stops, ..self }
     }
 
     pub fn agrees(self, other: Shape) -> bool {
-        self.data == other.data && self.address == other.address && self.parity == other.parity
+        let stops = self.stops;
+        self == Shape { stops, ..other }
     }
 
-    pub fn width(self) -> u16 {
-        u16::from(self.data) + u16::from(self.address)
+    pub fn data_bits(self) -> u8 {
+        match self.data {
+            DataBits::Seven => 7,
+            DataBits::Eight => 8,
+        }
+    }
+
+    pub fn stop_bits(self) -> u8 {
+        match self.stops {
+            StopBits::One => 1,
+            StopBits::Two => 2,
+        }
+    }
+
+    pub fn width(self) -> usize {
+        usize::from(self.data_bits()) + usize::from(self.address)
     }
 
     // The number of the first stop bit.
-    pub fn first_stop(self) -> u16 {
-        let parity = if self.parity == 0 { 0 } else { 1 };
-        1 + u16::from(self.data) + u16::from(self.address) + parity
+    pub fn first_stop(self) -> usize {
+        let parity = match self.parity {
+            Parity::Absent => 0,
+            Parity::Odd | Parity::Even => 1,
+        };
+        1 + usize::from(self.data_bits()) + usize::from(self.address) + parity
     }
 
-    pub fn bits(self) -> u32 {
-        u32::from(self.first_stop()) + u32::from(self.stops)
+    pub fn bits(self) -> usize {
+        self.first_stop()
+            .saturating_add(usize::from(self.stop_bits()))
     }
 
     // How many characters there are.
@@ -59,21 +101,49 @@ impl Shape {
         }
     }
 
-    // 1 for mark and 0 for space, in a frame of a character that is not too wide.
-    pub fn level(self, character: u16, bit: u32) -> u8 {
-        let width = u32::from(self.width());
+    // The level of a bit in the frame of a character that is not too wide.
+    pub fn level(self, character: u16, bit: usize) -> Level {
         if bit == 0 {
-            return 0;
+            return Level::Space;
         }
-        if bit <= width {
-            let digit = (character >> ((bit - 1) % 16)) % 2;
-            return digit as u8;
+        let above = bit - 1;
+        if above < self.width() {
+            return level_of(u32::from(character >> (above % 16)));
         }
-        let ones = character.count_ones() % 2;
-        match (bit == width + 1, self.parity) {
-            (true, 1) => (1 - ones) as u8,
-            (true, 2) => ones as u8,
-            _ => 1,
+        let ones = character.count_ones();
+        match self.parity {
+            Parity::Odd if above == self.width() => level_of(1 + ones),
+            Parity::Even if above == self.width() => level_of(ones),
+            _ => Level::Mark,
         }
+    }
+}
+
+impl TryFrom<Shape> for Format {
+    type Error = Refusal;
+
+    fn try_from(shape: Shape) -> Result<Format, Refusal> {
+        let parity = match shape.parity {
+            Parity::Absent => 0,
+            Parity::Odd => 1,
+            Parity::Even => 2,
+        };
+        let address = u8::from(shape.address);
+        Format::from_numbers(shape.data_bits(), address, parity, shape.stop_bits())
+    }
+}
+
+// As 8N1, with A before the parity where there is an address bit.
+impl fmt::Display for Shape {
+    fn fmt<W: fmt::Write>(&self, f: &mut fmt::Formatter<W>) -> fmt::Result {
+        let data = self.data_bits();
+        let address = if self.address { "A" } else { "" };
+        let parity = match self.parity {
+            Parity::Absent => "N",
+            Parity::Odd => "O",
+            Parity::Even => "E",
+        };
+        let stops = self.stop_bits();
+        write!(f, "{data}{address}{parity}{stops}")
     }
 }

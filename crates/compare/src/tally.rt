@@ -1,25 +1,35 @@
 // How many cases were compared, and how many of them differed.
-#[derive(Clone, Copy)]
+use std::{fmt, io};
+
+// What both emulators made of a case. It is printed where it is the first that differs.
+pub trait Case: fmt::Display {
+    fn is_same(&self) -> bool;
+}
+
+#[derive(Clone, Copy, Default)]
 pub struct Tally {
-    pub cases: u32,
+    cases: u32,
     pub differences: u32,
 }
 
 impl Tally {
-    pub fn new() -> Tally {
-        Tally {
-            cases: 0,
-            differences: 0,
-        }
-    }
-
-    // Counts a case, and says whether it is the first that differs.
-    pub fn count(&mut self, same: bool) -> bool {
+    pub fn count<C: Case>(&mut self, rt: &impl Print, case: &C) -> io::Result<()> {
         self.cases = self.cases.saturating_add(1);
-        if same {
-            return false;
+        if case.is_same() {
+            return Ok(());
         }
         self.differences = self.differences.saturating_add(1);
-        self.differences == 1
+        if self.differences == 1 {
+            print!(rt; "{case}")?;
+        }
+        Ok(())
+    }
+}
+
+impl fmt::Display for Tally {
+    fn fmt<W: fmt::Write>(&self, f: &mut fmt::Formatter<W>) -> fmt::Result {
+        let cases = self.cases;
+        let differences = self.differences;
+        write!(f, "{cases:>6} cases, {differences} differences")
     }
 }

@@ -2,8 +2,9 @@
 use super::dice::Dice;
 use super::shape::Shape;
 use ends::{Kind, Timing};
-use line::Refusal;
+use line::{Format, Level, Refusal};
 use port::Port;
+use std::{array, fmt};
 use usart::Usart;
 
 // The settings of an end.
@@ -14,31 +15,30 @@ pub enum Gear {
 }
 
 impl Gear {
-    // The clocks before a bit of the frame.
-    pub fn start(self, bit: u8) -> u32 {
+    // The clocks of a bit of the frame.
+    fn length(self, bit: usize) -> u32 {
         match self {
-            Gear::Port { divider } => (16 * u32::from(divider)).saturating_mul(u32::from(bit)),
+            Gear::Port { divider } => 16 * u32::from(divider),
             Gear::Usart { divider, modulator } => {
-                let mut longer = 0u32;
-                for k in 0..bit {
-                    longer = longer.saturating_add(u32::from(modulator >> (k % 8)) % 2);
-                }
-                longer.saturating_add(u32::from(bit).saturating_mul(u32::from(divider)))
+                u32::from(divider) + u32::from(modulator >> (bit % 8)) % 2
             }
         }
     }
 
+    // The clocks before a bit of the frame.
+    fn start(self, bit: usize) -> u32 {
+        (0..bit).fold(0u32, |start, before| {
+            start.saturating_add(self.length(before))
+        })
+    }
+
     // The three sample clocks of a bit.
-    pub fn samples(self, bit: u8) -> [u32; 3] {
-        let start = self.start(bit);
+    fn samples(self, bit: usize) -> [u32; 3] {
         let (middle, aside) = match self {
             Gear::Port { divider } => (8 * u32::from(divider), u32::from(divider)),
-            Gear::Usart { .. } => {
-                let clocks = self.start(bit.saturating_add(1)).saturating_sub(start);
-                (clocks / 2, spread(clocks))
-            }
+            Gear::Usart { .. } => (self.length(bit) / 2, spread(self.length(bit))),
         };
-        let second = start.saturating_add(middle);
+        let second = self.start(bit).saturating_add(middle);
         [
             second.saturating_sub(aside),
             second,
@@ -56,18 +56,8 @@ impl Gear {
     // Whether an end of this format can have these settings.
     pub fn suits(self, shape: Shape) -> bool {
         match self {
-            Gear::Port { divider } => divider >= 1 && divider <= 4096 && shape.address == 0,
+            Gear::Port { divider } => divider >= 1 && divider <= 4096 && !shape.address,
             Gear::Usart { divider, .. } => divider >= 3,
-        }
-    }
-
-    pub fn library(self, shape: Shape) -> Result<Timing, Refusal> {
-        let format = shape.library()?;
-        match self {
-            Gear::Port { divider } => Port::timing(format, port::Settings::new(divider)?),
-            Gear::Usart { divider, modulator } => {
-                Usart::timing(format, usart::Settings::new(divider, modulator)?)
-            }
         }
     }
 }
@@ -75,13 +65,10 @@ impl Gear {
 // The distance of a USART's outer samples from the middle one: a thirty-second of the largest power of two that is not above
 // the bit's clocks, and at least 1.
 fn spread(clocks: u32) -> u32 {
-    let mut distance = 1u32;
-    for _ in 0..12 {
-        if clocks / 64 >= distance {
-            distance = distance.saturating_mul(2);
-        }
+    match clocks.checked_ilog2() {
+        Some(power) if power > 5 => 1 << (power - 5),
+        _ => 1,
     }
-    distance
 }
 
 // An end of a line: a format, and the times that its settings give.
@@ -97,27 +84,18 @@ pub struct End {
 
 impl End {
     pub fn new(shape: Shape, gear: Gear) -> End {
-        let mut starts = [0; 14];
-        let mut samples = [[0; 3]; 12];
-        for bit in 0..14u8 {
-            starts[bit as usize] = gear.start(bit);
-        }
-        for bit in 0..12u8 {
-            samples[bit as usize] = gear.samples(bit);
-        }
-        let frame_clocks = gear.start(shape.bits().min(13) as u8);
         End {
             shape,
             gear,
-            starts,
-            samples,
-            frame_clocks,
+            starts: array::from_fn(|bit| gear.start(bit)),
+            samples: array::from_fn(|bit| gear.samples(bit)),
+            frame_clocks: gear.start(shape.bits()),
         }
     }
 
     // An end of this format with short bits, so that many cases can be run.
     pub fn short(dice: &mut Dice, shape: Shape) -> End {
-        let gear = if shape.address == 0 && dice.one_in(4) {
+        let gear = if !shape.address && dice.one_in(4) {
             Gear::Port { divider: 1 }
         } else {
             Gear::Usart {
@@ -128,15 +106,76 @@ impl End {
         End::new(shape, gear)
     }
 
+    // The clocks before a bit, 0 past the last one.
+    pub fn start(&self, bit: usize) -> u32 {
+        self.starts.get(bit).copied().unwrap_or(0)
+    }
+
+    // The sample clocks of a bit, 0 past the last one.
+    pub fn sampled(&self, bit: usize) -> [u32; 3] {
+        self.samples.get(bit).copied().unwrap_or([0; 3])
+    }
+
     // The level at a clock of the frame of a character, mark past its end.
-    pub fn level(&self, character: u16, clock: u32) -> u8 {
-        let mut bit = 0u32;
-        for start in self.starts.iter().skip(1) {
-            if *start > clock {
-                break;
-            }
-            bit = bit.saturating_add(1);
-        }
+    pub fn level(&self, character: u16, clock: u32) -> Level {
+        let ends = self.starts.iter().skip(1);
+        let bit = ends.take_while(|end| **end <= clock).count();
         self.shape.level(character, bit)
+    }
+}
+
+impl TryFrom<End> for Timing {
+    type Error = Refusal;
+
+    fn try_from(end: End) -> Result<Timing, Refusal> {
+        let format = Format::try_from(end.shape)?;
+        match end.gear {
+            Gear::Port { divider } => Port::timing(format, port::Settings::new(divider)?),
+            Gear::Usart { divider, modulator } => {
+                Usart::timing(format, usart::Settings::new(divider, modulator)?)
+            }
+        }
+    }
+}
+
+// The two ends of a line.
+#[derive(Clone, Copy)]
+pub struct Pair {
+    pub sender: End,
+    pub receiver: End,
+}
+
+impl Pair {
+    // Short ends of formats that agree, but once in so many times the receiver's is any.
+    pub fn short(dice: &mut Dice, number: u16, strange: u16) -> Pair {
+        let shape = Shape::numbered(number % 24);
+        let other = shape.partner(dice, strange);
+        Pair {
+            sender: End::short(dice, shape),
+            receiver: End::short(dice, other),
+        }
+    }
+
+    pub fn agrees(&self) -> bool {
+        self.sender.shape.agrees(self.receiver.shape)
+    }
+
+    // The library's times for both.
+    pub fn timings(&self) -> Result<(Timing, Timing), Refusal> {
+        let from = Timing::try_from(self.sender)?;
+        let to = Timing::try_from(self.receiver)?;
+        Ok((from, to))
+    }
+}
+
+impl fmt::Display for End {
+    fn fmt<W: fmt::Write>(&self, f: &mut fmt::Formatter<W>) -> fmt::Result {
+        write!(f, "{} {:?}", self.shape, self.gear)
+    }
+}
+
+impl fmt::Display for Pair {
+    fn fmt<W: fmt::Write>(&self, f: &mut fmt::Formatter<W>) -> fmt::Result {
+        write!(f, "sender {}, receiver {}", self.sender, self.receiver)
     }
 }

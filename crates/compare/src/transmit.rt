@@ -1,10 +1,11 @@
 // The half of a chip that is set up, released and sends. What it hears it writes down for the other half.
 use super::address;
-use super::hearing::heard;
-use super::said::Said;
+use super::hearing::{Entry, heard};
+use super::said::{Answer, Said};
 use super::schedule::Schedule;
 use super::shape::Shape;
 use super::times::{End, Gear};
+use line::{DataBits, Level, Parity, Refusal, StopBits};
 use std::alloc::{AllocError, Global};
 
 // An entry that arrives, and the step of the case at which it does.
@@ -12,8 +13,23 @@ use std::alloc::{AllocError, Global};
 pub struct Received {
     pub step: usize,
     pub shape: Shape,
-    pub character: u16,
-    pub flags: u8,
+    pub entry: Entry,
+}
+
+// A clock: the level heard at it, and the step of the case at which it was given.
+#[derive(Clone, Copy)]
+struct Clocked {
+    level: Level,
+    step: usize,
+}
+
+// What there is since the release: what is sent, how many clocks were given, and what was heard at each.
+#[derive(Drop)]
+struct Released {
+    end: End,
+    schedule: Schedule,
+    clock: u32,
+    clocked: Vec<Clocked>,
 }
 
 #[derive(Drop)]
@@ -24,35 +40,78 @@ pub struct Transmit {
     ubr0: u8,
     ubr1: u8,
     utxbuf: u8,
-    // since the release: what is sent, the clocks, the level heard at each, and the step at which each was given
-    end: End,
-    schedule: Schedule,
-    clock: u32,
-    levels: Vec<u8>,
-    steps: Vec<usize>,
+    // none in reset
+    released: Option<Released>,
 }
 
 // The format that a byte in UCTL says.
 fn format(uctl: u8) -> Shape {
+    let has = |bit: u8| uctl & bit != 0;
     Shape {
-        data: if uctl & address::CHAR != 0 { 8 } else { 7 },
-        address: if uctl & address::MM != 0 { 1 } else { 0 },
-        parity: match (uctl & address::PENA != 0, uctl & address::PEV != 0) {
-            (false, _) => 0,
-            (true, false) => 1,
-            (true, true) => 2,
+        data: if has(address::CHAR) {
+            DataBits::Eight
+        } else {
+            DataBits::Seven
         },
-        stops: if uctl & address::SP != 0 { 2 } else { 1 },
+        address: has(address::MM),
+        parity: match (has(address::PENA), has(address::PEV)) {
+            (false, _) => Parity::Absent,
+            (true, false) => Parity::Odd,
+            (true, true) => Parity::Even,
+        },
+        stops: if has(address::SP) {
+            StopBits::Two
+        } else {
+            StopBits::One
+        },
+    }
+}
+
+impl Released {
+    fn new(heap: Global, end: End) -> Released {
+        Released {
+            end,
+            schedule: Schedule::new(heap, end),
+            clock: 0,
+            clocked: Vec::new(heap),
+        }
+    }
+
+    fn has_room(&self) -> bool {
+        self.schedule.waiting(self.clock) == 0
+    }
+
+    // Sends a clock, at which the chip hears itself if it listens.
+    fn clock(&mut self, heard: Level, listens: bool, step: usize) -> Result<Level, AllocError> {
+        let utxd = self.schedule.level(self.clock);
+        let level = if listens { utxd } else { heard };
+        self.clocked.push(Clocked { level, step })?;
+        self.clock = self.clock.saturating_add(1);
+        Ok(utxd)
+    }
+
+    // What was taken down, at the steps at which it arrived.
+    fn hand_over(&self, heap: Global, received: &mut Vec<Received>) -> Result<(), AllocError> {
+        let levels = self
+            .clocked
+            .iter()
+            .map(|clocked| clocked.level)
+            .collect::<Vec<Level>>(heap)?;
+        for arrival in heard(heap, &self.end, levels.as_slice())?.iter() {
+            if let Some(clocked) = self.clocked.get(arrival.clock) {
+                received.push(Received {
+                    step: clocked.step,
+                    shape: self.end.shape,
+                    entry: arrival.entry,
+                })?;
+            }
+        }
+        Ok(())
     }
 }
 
 impl Transmit {
-    pub fn power_up(heap: Global) -> Transmit {
-        let gear = Gear::Usart {
-            divider: 0,
-            modulator: 0,
-        };
-        let end = End::new(format(0), gear);
+    pub fn power_up() -> Transmit {
         Transmit {
             uctl: address::SWRST,
             utctl: 0,
@@ -60,71 +119,83 @@ impl Transmit {
             ubr0: 0,
             ubr1: 0,
             utxbuf: 0,
-            end,
-            schedule: Schedule::new(heap, end),
-            clock: 0,
-            levels: Vec::new(heap),
-            steps: Vec::new(heap),
+            released: None,
         }
     }
 
     fn in_reset(&self) -> bool {
-        self.uctl & address::SWRST != 0
+        self.released.is_none()
     }
 
     pub fn utxifg(&self) -> bool {
-        self.in_reset() || self.schedule.waiting(self.clock) == 0
+        self.released
+            .as_ref()
+            .is_none_or(|released| released.has_room())
     }
 
-    fn write_uctl(&mut self, heap: Global, value: u8) -> Said {
+    fn write_uctl(&mut self, heap: Global, value: u8) -> Answer {
         if value & address::SWRST != 0 {
             self.uctl = value;
             self.utctl &= !address::TXWAKE;
-            return Said::Done;
+            self.released = None;
+            return Ok(Said::Done);
         }
         if !self.in_reset() {
-            return Said::Refused(9);
+            return Err(Refusal::Closed);
         }
         if value & address::SYNC != 0 {
-            return Said::Refused(10);
+            return Err(Refusal::SyncSet);
         }
         let gear = Gear::Usart {
             divider: u16::from(self.ubr1) * 256 + u16::from(self.ubr0),
             modulator: self.umctl,
         };
-        let end = End::new(format(value), gear);
-        if !gear.suits(end.shape) {
-            return Said::Refused(1);
+        let shape = format(value);
+        if !gear.suits(shape) {
+            return Err(Refusal::OutOfRange);
         }
         self.uctl = value;
-        self.end = end;
-        self.schedule = Schedule::new(heap, end);
-        self.clock = 0;
-        Said::Done
-    }
-
-    fn write_utxbuf(&mut self, value: u8) -> Result<Said, AllocError> {
-        if self.in_reset() {
-            return Ok(Said::Refused(9));
-        }
-        if !self.utxifg() {
-            return Ok(Said::Refused(3));
-        }
-        let shape = self.end.shape;
-        self.utxbuf = if shape.data == 7 { value % 128 } else { value };
-        let mut character = u16::from(self.utxbuf);
-        if shape.address == 1 && self.utctl & address::TXWAKE != 0 {
-            character |= 1u16 << (shape.data % 16);
-        }
-        self.utctl &= !address::TXWAKE;
-        self.schedule.add(self.clock, character)?;
+        self.released = Some(Released::new(heap, End::new(shape, gear)));
         Ok(Said::Done)
     }
 
-    pub fn write(&mut self, heap: Global, register: u16, value: u8) -> Result<Said, AllocError> {
+    // The byte as the format cuts it, and the character that is sent.
+    fn cut(&self, shape: Shape, value: u8) -> (u8, u16) {
+        let wakes = shape.address && self.utctl & address::TXWAKE != 0;
+        let (byte, bit) = match shape.data {
+            DataBits::Seven => (value % 128, 128),
+            DataBits::Eight => (value, 256),
+        };
+        let above = if wakes { bit } else { 0 };
+        (byte, u16::from(byte) | above)
+    }
+
+    fn write_utxbuf(&mut self, value: u8) -> Result<Answer, AllocError> {
+        let shape = match &self.released {
+            None => return Ok(Err(Refusal::Closed)),
+            Some(released) if !released.has_room() => return Ok(Err(Refusal::Full)),
+            Some(released) => released.end.shape,
+        };
+        let (byte, character) = self.cut(shape, value);
+        self.utxbuf = byte;
+        self.utctl &= !address::TXWAKE;
+        if let Some(released) = &mut self.released {
+            released.schedule.add(released.clock, character)?;
+        }
+        Ok(Ok(Said::Done))
+    }
+
+    pub fn write(&mut self, heap: Global, register: u16, value: u8) -> Result<Answer, AllocError> {
+        match register {
+            address::UCTL => Ok(self.write_uctl(heap, value)),
+            address::UTXBUF => self.write_utxbuf(value),
+            _ => Ok(self.write_other(register, value)),
+        }
+    }
+
+    fn write_other(&mut self, register: u16, value: u8) -> Answer {
         let closed = !self.in_reset();
         match register {
-            address::UCTL => return Ok(self.write_uctl(heap, value)),
             address::UTCTL => {
                 self.utctl = value & !address::TXEPT;
                 if self.in_reset() {
@@ -132,65 +203,51 @@ impl Transmit {
                 }
             }
             address::URCTL => {}
-            address::URXBUF => return Ok(Said::Refused(9)),
-            address::UTXBUF => return self.write_utxbuf(value),
-            address::UMCTL..=address::UBR1 if closed => return Ok(Said::Refused(9)),
+            address::URXBUF => return Err(Refusal::Closed),
+            address::UMCTL..=address::UBR1 if closed => return Err(Refusal::Closed),
             address::UMCTL => self.umctl = value,
             address::UBR0 => self.ubr0 = value,
             address::UBR1 => self.ubr1 = value,
-            _ => return Ok(Said::Refused(8)),
+            _ => return Err(Refusal::NoSuchRegister),
         }
         Ok(Said::Done)
     }
 
+    fn is_over(&self) -> bool {
+        self.released
+            .as_ref()
+            .is_none_or(|released| released.schedule.is_over(released.clock))
+    }
+
     // 0 for the two registers of the other half.
-    pub fn read(&self, register: u16) -> Said {
-        match register {
-            address::UCTL => Said::Byte(self.uctl),
-            address::UTCTL => {
-                let over = self.in_reset() || self.schedule.is_over(self.clock);
-                Said::Byte(self.utctl | if over { address::TXEPT } else { 0 })
-            }
-            address::UMCTL => Said::Byte(self.umctl),
-            address::UBR0 => Said::Byte(self.ubr0),
-            address::UBR1 => Said::Byte(self.ubr1),
-            address::UTXBUF => Said::Byte(self.utxbuf),
-            address::URCTL | address::URXBUF => Said::Byte(0),
-            _ => Said::Refused(8),
-        }
+    pub fn read(&self, register: u16) -> Answer {
+        Ok(Said::Byte(match register {
+            address::UCTL => self.uctl,
+            address::UTCTL if self.is_over() => self.utctl | address::TXEPT,
+            address::UTCTL => self.utctl,
+            address::UMCTL => self.umctl,
+            address::UBR0 => self.ubr0,
+            address::UBR1 => self.ubr1,
+            address::UTXBUF => self.utxbuf,
+            address::URCTL | address::URXBUF => 0,
+            _ => return Err(Refusal::NoSuchRegister),
+        }))
     }
 
-    pub fn clock(&mut self, level: u8, step: usize) -> Result<Said, AllocError> {
-        if self.in_reset() {
-            return Ok(Said::Line(1));
-        }
-        let utxd = self.schedule.level(self.clock);
+    // The level that is sent: mark in reset.
+    pub fn clock(&mut self, level: Level, step: usize) -> Result<Level, AllocError> {
         let listens = self.uctl & address::LISTEN != 0;
-        self.levels.push(if listens { utxd } else { level })?;
-        self.steps.push(step)?;
-        self.clock = self.clock.saturating_add(1);
-        Ok(Said::Line(utxd))
+        match &mut self.released {
+            None => Ok(Level::Mark),
+            Some(released) => released.clock(level, listens, step),
+        }
     }
 
-    // In reset and at the end of a case: hands over what was taken down since the release.
-    pub fn hand_over(
-        &mut self,
-        heap: Global,
-        received: &mut Vec<Received>,
-    ) -> Result<(), AllocError> {
-        let arrivals = heard(heap, &self.end, self.levels.as_slice())?;
-        for entry in arrivals.iter() {
-            if let Some(step) = self.steps.get(entry.clock) {
-                received.push(Received {
-                    step: *step,
-                    shape: self.end.shape,
-                    character: entry.character,
-                    flags: entry.flags,
-                })?;
-            }
+    // Before a reset and at the end of a case: what was taken down since the release.
+    pub fn hand_over(&self, heap: Global, received: &mut Vec<Received>) -> Result<(), AllocError> {
+        match &self.released {
+            None => Ok(()),
+            Some(released) => released.hand_over(heap, received),
         }
-        self.levels.clear();
-        self.steps.clear();
-        Ok(())
     }
 }

@@ -30,24 +30,23 @@ fn released(uctl: u8) -> Result<Chip, Refusal> {
     Ok(chip)
 }
 
-// Gives the chip a frame, the last bit of the list first, three clocks for each bit, and then a bit of mark.
-fn give(chip: &mut Chip, frame: &[u8]) {
-    for bit in frame.iter().rev() {
-        let level = if *bit == 0 { Level::Space } else { Level::Mark };
-        for _ in 0..3 {
-            let _ = chip.clock(level);
-        }
-    }
-    for _ in 0..3 {
-        let _ = chip.clock(Level::Mark);
+// Clocks the chip with a line at one level.
+fn hold(chip: &mut Chip, level: Level, clocks: usize) {
+    for _ in 0..clocks {
+        let _ = chip.clock(level);
     }
 }
 
-// Clocks the chip with a line at mark.
 fn idle(chip: &mut Chip, clocks: usize) {
-    for _ in 0..clocks {
-        let _ = chip.clock(Level::Mark);
+    hold(chip, Level::Mark, clocks);
+}
+
+// Gives the chip a frame, the last bit of the list first, three clocks for each bit, and then a bit of mark.
+fn give(chip: &mut Chip, frame: &[u8]) {
+    for bit in frame.iter().rev() {
+        hold(chip, Level::from_digit(u16::from(*bit)), 3);
     }
+    idle(chip, 3);
 }
 
 #[test]
@@ -128,9 +127,7 @@ fn a_byte_sent_with_listen_comes_back(rt: HostRuntime) -> Result<(), Fail> {
     let mut chip = released(LISTENING)?;
     chip.write(UTXBUF, 0xa5)?;
     // the line stays at space meanwhile, which nobody hears
-    for _ in 0..31 {
-        let _ = chip.clock(Level::Space);
-    }
+    hold(&mut chip, Level::Space, 31);
     assert!(rt; chip.interrupts().urxifg);
     assert_eq!(rt; chip.read(URCTL), Ok(0x00));
     assert_eq!(rt; chip.read(URXBUF), Ok(0xa5));
@@ -246,10 +243,9 @@ const ENABLES: [(bool, bool, bool, bool, bool); 16] = [
 fn the_enables_let_through_what_their_table_says(rt: HostRuntime) -> Result<(), Fail> {
     for (urxeie, urxwie, error, address, set) in ENABLES {
         let mut chip = released(ADDRESSED)?;
-        let enables = if urxeie { 0x08 } else { 0 } | if urxwie { 0x04 } else { 0 };
-        chip.write(URCTL, enables)?;
-        let stop = if error { 0 } else { 1 };
-        let wake = if address { 1 } else { 0 };
+        chip.write(URCTL, u8::from(urxeie) << 3 | u8::from(urxwie) << 2)?;
+        let stop = u8::from(!error);
+        let wake = u8::from(address);
         give(&mut chip, &[stop, wake, 0, 1, 0, 0, 0, 0, 0, 1, 0]);
         assert_eq!(rt; chip.interrupts().urxifg, set);
         assert_eq!(rt; chip.read(URXBUF), Ok(if set { 0x41 } else { 0 }));

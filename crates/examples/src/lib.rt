@@ -7,6 +7,8 @@ mod chips;
 #[cfg(test)]
 mod links;
 #[cfg(test)]
+mod ports;
+#[cfg(test)]
 mod sheets;
 #[cfg(test)]
 mod tests;

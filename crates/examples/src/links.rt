@@ -1,29 +1,21 @@
 // Examples of links and of rates that fit, with values worked out by hand.
-use ends::{BareReceiver, BareSender, Kind, Receiver, Sender, Timing};
-use line::{Format, Level, Refusal};
+use super::ports::{laptop_port, usart_port};
+use ends::{BareReceiver, BareSender, Receiver, Sender, Timing};
+use line::{Level, Refusal};
 use link::{Act, Answer, Link, Rates, Verdict, fit};
-use port::Port;
 use queue::{ReceiveQueue, SendQueue};
 use std::test::Fail;
-use usart::Usart;
-
-// A port of this format at divider 6 and modulator 6Fh.
-fn usart_port(
-    data_bits: u8,
-    address_bits: u8,
-    parity: u8,
-    stop_bits: u8,
-) -> Result<Timing, Refusal> {
-    let format = Format::from_numbers(data_bits, address_bits, parity, stop_bits)?;
-    Usart::timing(format, usart::Settings::new(6, 0x6f)?)
-}
-
-fn laptop_port() -> Result<Timing, Refusal> {
-    Port::timing(Format::from_numbers(8, 0, 0, 1)?, port::Settings::new(24)?)
-}
 
 fn loads(from: Timing, to: Timing, character: u16) -> Result<(), Refusal> {
     Link::join(BareSender::new(from), BareReceiver::new(to)).load(character)
+}
+
+// So many clocks of the sender, each with one of the receiver.
+fn exchange<S: Sender + Drop, R: Receiver + Drop>(link: &mut Link<S, R>, clocks: usize) {
+    for _ in 0..clocks {
+        let _ = link.send();
+        link.receive();
+    }
 }
 
 #[test]
@@ -139,10 +131,7 @@ fn a_link_delivers_after_noise_and_quiet(rt: HostRuntime) -> Result<(), Fail> {
     // the spaces looked like a character with five low zeros
     assert_eq!(rt; link.read(), Ok((0xe0, 0)));
     assert_eq!(rt; link.load(0x41), Ok(()));
-    for _ in 0..68 {
-        let _ = link.send();
-        link.receive();
-    }
+    exchange(&mut link, 68);
     assert_eq!(rt; link.read(), Ok((0x41, 0)));
     assert_eq!(rt; link.read(), Err(Refusal::NothingUnread));
     Ok(())
@@ -158,13 +147,9 @@ fn queues_on_both_ends_overrun_the_newest(rt: HostRuntime) -> Result<(), Fail> {
     for character in 0..18 {
         // seventeen wait at the most: the first goes on the line
         assert_eq!(rt; link.load(character), Ok(()));
-        let _ = link.send();
-        link.receive();
+        exchange(&mut link, 1);
     }
-    for _ in 0..18 * 68 {
-        let _ = link.send();
-        link.receive();
-    }
+    exchange(&mut link, 18 * 68);
     for character in 0..16 {
         assert_eq!(rt; link.read(), Ok((character, 0)));
     }

@@ -1,23 +1,12 @@
 // Examples of what the settings sheet is made of, with values worked out apart from the library.
-use ends::{BareReceiver, BareSender, Kind, Timing};
-use line::{Format, Refusal};
+use super::ports::{laptop_port, lock_port};
+use ends::{BareReceiver, BareSender};
+use line::Refusal;
 use link::Rates;
 use picture::{Scanner, draw};
-use port::Port;
 use sheet::{Off, highest, lowest, nearest_divider};
 use std::test::Fail;
-use usart::Usart;
 use words::format_named;
-
-fn lock_port() -> Result<Timing, Refusal> {
-    let format = Format::from_numbers(8, 0, 0, 1)?;
-    Usart::timing(format, usart::Settings::new(6, 0x6f)?)
-}
-
-fn laptop_port() -> Result<Timing, Refusal> {
-    let format = Format::from_numbers(8, 0, 0, 1)?;
-    Port::timing(format, port::Settings::new(24)?)
-}
 
 // The two rates were found by trying Fit's inequalities hertz by hertz.
 #[test]
