@@ -3,7 +3,7 @@ use super::address;
 use super::dice::Dice;
 use super::firmware::{Step, some_steps};
 use super::receive::Receive;
-use super::said::{Answer, Said, first_difference};
+use super::said::{Answer, Both, Said};
 use super::shape::Shape;
 use super::tally::{Case, Tally};
 use super::transmit::{Received, Transmit};
@@ -98,8 +98,7 @@ fn by_library(heap: Global, steps: &[Step]) -> Result<Vec<Answer>, AllocError> {
 struct Driven {
     seed: u16,
     steps: Vec<Step>,
-    own: Vec<Answer>,
-    library: Vec<Answer>,
+    answers: Both<Vec<Answer>>,
     difference: Option<usize>,
 }
 
@@ -108,14 +107,15 @@ impl Driven {
         let mut dice = Dice::new(u32::from(seed));
         let shape = Shape::numbered(seed % 24);
         let steps = some_steps(heap, &mut dice, shape)?;
-        let own = by_times(heap, steps.as_slice())?;
-        let library = by_library(heap, steps.as_slice())?;
-        let difference = first_difference(own.as_slice(), library.as_slice());
+        let answers = Both {
+            own: by_times(heap, steps.as_slice())?,
+            library: by_library(heap, steps.as_slice())?,
+        };
+        let difference = answers.difference();
         Ok(Driven {
             seed,
             steps,
-            own,
-            library,
+            answers,
             difference,
         })
     }
@@ -136,8 +136,7 @@ impl fmt::Display for Driven {
             "seed {seed}, to step {place}, counted from 0, of {:?}",
             self.steps
         )?;
-        writeln!(f, "  the library        {:?}", self.library.get(place))?;
-        writeln!(f, "  the other emulator {:?}", self.own.get(place))
+        write!(f, "{}", self.answers.at(place))
     }
 }
 

@@ -1,6 +1,6 @@
 // Fit against its definition: every phase of two steady clocks, and every send clock at which a frame can begin.
 use super::dice::Dice;
-use super::said::agree;
+use super::said::Both;
 use super::tally::{Case, Tally};
 use super::times::Pair;
 use ends::{BareReceiver, BareSender, Timing};
@@ -143,8 +143,7 @@ impl Setup {
 struct Rated {
     seed: u16,
     setup: Setup,
-    own: Finding,
-    library: Finding,
+    findings: Both<Finding>,
 }
 
 impl Rated {
@@ -157,15 +156,17 @@ impl Rated {
         Some(Rated {
             seed,
             setup,
-            own: setup.by_phases(),
-            library: setup.by_library(from, to),
+            findings: Both {
+                own: setup.by_phases(),
+                library: setup.by_library(from, to),
+            },
         })
     }
 }
 
 impl Case for Rated {
     fn is_same(&self) -> bool {
-        agree(&self.own, &self.library)
+        self.findings.agree()
     }
 }
 
@@ -174,8 +175,7 @@ impl fmt::Display for Rated {
         let seed = self.seed;
         let Setup { pair, rates } = self.setup;
         writeln!(f, "seed {seed}, {rates:?}, {pair}")?;
-        writeln!(f, "  the library        {:?}", self.library)?;
-        writeln!(f, "  the other emulator {:?}", self.own)
+        write!(f, "{}", self.findings)
     }
 }
 

@@ -1,7 +1,7 @@
 // Formats, frames and tables of times: every frame of every format, and the settings of both kinds of ends.
 use super::dice::Dice;
 use super::levels::byte_of;
-use super::said::agree;
+use super::said::Both;
 use super::shape::Shape;
 use super::tally::{Case, Tally};
 use super::times::{End, Gear};
@@ -14,8 +14,7 @@ use std::{fmt, io};
 struct Framed {
     shape: Shape,
     character: u16,
-    own: Result<u16, Refusal>,
-    library: Result<u16, Refusal>,
+    digits: Both<Result<u16, Refusal>>,
 }
 
 impl Framed {
@@ -23,8 +22,10 @@ impl Framed {
         Framed {
             shape,
             character,
-            own: Ok(digits(shape, character)),
-            library: Format::try_from(shape).map(|format| format.frame(character)),
+            digits: Both {
+                own: Ok(digits(shape, character)),
+                library: Format::try_from(shape).map(|format| format.frame(character)),
+            },
         }
     }
 }
@@ -38,7 +39,7 @@ fn digits(shape: Shape, character: u16) -> u16 {
 
 impl Case for Framed {
     fn is_same(&self) -> bool {
-        agree(&self.own, &self.library)
+        self.digits.agree()
     }
 }
 
@@ -46,8 +47,7 @@ impl fmt::Display for Framed {
     fn fmt<W: fmt::Write>(&self, f: &mut fmt::Formatter<W>) -> fmt::Result {
         let character = self.character;
         writeln!(f, "{}, character {character:X}h", self.shape)?;
-        writeln!(f, "  the library        {:?}", self.library)?;
-        writeln!(f, "  the other emulator {:?}", self.own)
+        write!(f, "{}", self.digits)
     }
 }
 
@@ -100,8 +100,7 @@ fn first_odd<F: Fn(u8) -> (u32, u32)>(time: Time, bound: u8, numbers: F) -> Opti
 struct Timed {
     seed: u32,
     end: End,
-    own: Result<(), Refusal>,
-    library: Result<(), Refusal>,
+    suits: Both<Result<(), Refusal>>,
     odd: Option<Odd>,
 }
 
@@ -119,8 +118,10 @@ impl Timed {
         Timed {
             seed,
             end,
-            own,
-            library: timing.map(|_| ()),
+            suits: Both {
+                own,
+                library: timing.map(|_| ()),
+            },
             odd: match timing {
                 Ok(timing) if own.is_ok() => odd_time(&end, timing),
                 _ => None,
@@ -155,7 +156,7 @@ fn odd_time(end: &End, timing: Timing) -> Option<Odd> {
 
 impl Case for Timed {
     fn is_same(&self) -> bool {
-        agree(&self.own, &self.library) && self.odd.is_none()
+        self.suits.agree() && self.odd.is_none()
     }
 }
 
@@ -167,8 +168,7 @@ impl fmt::Display for Timed {
             "seed {seed}, {}, {:?}: {:?}",
             self.end.shape, self.end.gear, self.odd
         )?;
-        writeln!(f, "  the library        {:?}", self.library)?;
-        writeln!(f, "  the other emulator {:?}", self.own)
+        write!(f, "{}", self.suits)
     }
 }
 

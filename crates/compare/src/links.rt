@@ -4,7 +4,7 @@ use super::dice::Dice;
 use super::hearing::{Entry, heard};
 use super::inbox::Inbox;
 use super::levels::byte_of;
-use super::said::{Answer, Said, first_difference};
+use super::said::{Answer, Both, Said};
 use super::schedule::Schedule;
 use super::tally::{Case, Tally};
 use super::times::Pair;
@@ -189,8 +189,7 @@ struct Linked {
     seed: u16,
     setup: Setup,
     acts: Vec<Act>,
-    own: Vec<Answer>,
-    library: Vec<Answer>,
+    answers: Both<Vec<Answer>>,
     difference: Option<usize>,
 }
 
@@ -203,15 +202,16 @@ impl Linked {
             return Ok(None);
         };
         let acts = some_acts(heap, &mut dice, &setup.pair)?;
-        let own = by_times(heap, &setup, acts.as_slice())?;
-        let library = by_library(heap, &setup, from, to, acts.as_slice())?;
-        let difference = first_difference(own.as_slice(), library.as_slice());
+        let answers = Both {
+            own: by_times(heap, &setup, acts.as_slice())?,
+            library: by_library(heap, &setup, from, to, acts.as_slice())?,
+        };
+        let difference = answers.difference();
         Ok(Some(Linked {
             seed,
             setup,
             acts,
-            own,
-            library,
+            answers,
             difference,
         }))
     }
@@ -249,8 +249,7 @@ impl fmt::Display for Linked {
             write_act(f, *act)?;
         }
         writeln!(f, ", to act {place}, counted from 0:")?;
-        writeln!(f, "  the library        {:?}", self.library.get(place))?;
-        writeln!(f, "  the other emulator {:?}", self.own.get(place))
+        write!(f, "{}", self.answers.at(place))
     }
 }
 

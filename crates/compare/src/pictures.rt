@@ -1,7 +1,7 @@
 // Pictures drawn.
 use super::dice::Dice;
 use super::levels::byte_of;
-use super::said::agree;
+use super::said::Both;
 use super::shape::Shape;
 use super::tally::{Case, Tally};
 use super::times::End;
@@ -56,10 +56,8 @@ struct Drawn {
     seed: u16,
     end: End,
     characters: Vec<u16>,
-    own: Result<usize, Refusal>,
-    own_picture: Vec<u8>,
-    library: Result<usize, Refusal>,
-    library_picture: Vec<u8>,
+    clocks: Both<Result<usize, Refusal>>,
+    pictures: Both<Vec<u8>>,
 }
 
 impl Drawn {
@@ -76,29 +74,25 @@ impl Drawn {
         let places = needed
             .saturating_add(dice.below(12) as usize)
             .saturating_sub(1);
-        let mut own_picture = vec![in heap; KEPT; places]?;
-        let mut library_picture = vec![in heap; KEPT; places]?;
-        let own = by_levels(&end, characters.as_slice(), own_picture.as_mut_slice());
-        let library = draw(
-            &timing,
-            characters.as_slice(),
-            library_picture.as_mut_slice(),
-        );
+        let mut own = vec![in heap; KEPT; places]?;
+        let mut library = vec![in heap; KEPT; places]?;
+        let clocks = Both {
+            own: by_levels(&end, characters.as_slice(), own.as_mut_slice()),
+            library: draw(&timing, characters.as_slice(), library.as_mut_slice()),
+        };
         Ok(Some(Drawn {
             seed,
             end,
             characters,
-            own,
-            own_picture,
-            library,
-            library_picture,
+            clocks,
+            pictures: Both { own, library },
         }))
     }
 }
 
 impl Case for Drawn {
     fn is_same(&self) -> bool {
-        agree(&self.own, &self.library) && self.own_picture == self.library_picture
+        self.clocks.agree() && self.pictures.own == self.pictures.library
     }
 }
 
@@ -110,16 +104,7 @@ impl fmt::Display for Drawn {
             "seed {seed}, {}, characters {:?}",
             self.end, self.characters
         )?;
-        writeln!(
-            f,
-            "  the library        {:?} {:?}",
-            self.library, self.library_picture
-        )?;
-        writeln!(
-            f,
-            "  the other emulator {:?} {:?}",
-            self.own, self.own_picture
-        )
+        write!(f, "{}{}", self.clocks, self.pictures)
     }
 }
 

@@ -1,6 +1,7 @@
 // What a call answers, as both emulators tell it.
 use super::hearing::Entry;
 use line::{Level, Refusal};
+use std::fmt;
 
 #[derive(Clone, Copy, PartialEq, Debug)]
 pub enum Said {
@@ -32,20 +33,51 @@ fn number(refusal: Refusal) -> u8 {
     }
 }
 
-// Whether the library answers the same, a refusal by its number.
-pub fn agree<T: PartialEq>(own: &Result<T, Refusal>, library: &Result<T, Refusal>) -> bool {
-    match (own, library) {
-        (Ok(mine), Ok(theirs)) => mine == theirs,
-        (Err(mine), Err(theirs)) => number(*mine) == u8::from(*theirs),
-        _ => false,
+// What each emulator says.
+#[derive(Clone, Copy, Drop)]
+pub struct Both<T> {
+    pub own: T,
+    pub library: T,
+}
+
+impl<T: PartialEq> Both<Result<T, Refusal>> {
+    // Whether they say the same, a refusal by its number.
+    pub fn agree(&self) -> bool {
+        match (&self.own, &self.library) {
+            (Ok(mine), Ok(theirs)) => mine == theirs,
+            (Err(mine), Err(theirs)) => number(*mine) == u8::from(*theirs),
+            _ => false,
+        }
     }
 }
 
-// The first place where two lists of answers differ, if there is one.
-pub fn first_difference(own: &[Answer], library: &[Answer]) -> Option<usize> {
-    let both = own.len().min(library.len());
-    own.iter()
-        .zip(library.iter())
-        .position(|(mine, theirs)| !agree(mine, theirs))
-        .or((own.len() != library.len()).then_some(both))
+impl<T: fmt::Debug> fmt::Display for Both<T> {
+    fn fmt<W: fmt::Write>(&self, f: &mut fmt::Formatter<W>) -> fmt::Result {
+        writeln!(f, "  the library        {:?}", self.library)?;
+        writeln!(f, "  the other emulator {:?}", self.own)
+    }
+}
+
+// Two lists of answers.
+impl Both<Vec<Answer>> {
+    // The first place where they differ, if there is one.
+    pub fn difference(&self) -> Option<usize> {
+        let own = self.own.iter();
+        let shorter = self.own.len().min(self.library.len());
+        own.zip(self.library.iter())
+            .position(|(own, library)| !Both {
+                own: *own,
+                library: *library,
+            }
+            .agree())
+            .or((self.own.len() != self.library.len()).then_some(shorter))
+    }
+
+    // What each says at a place.
+    pub fn at(&self, place: usize) -> Both<Option<Answer>> {
+        Both {
+            own: self.own.get(place).copied(),
+            library: self.library.get(place).copied(),
+        }
+    }
 }

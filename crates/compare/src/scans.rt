@@ -2,7 +2,7 @@
 use super::dice::Dice;
 use super::hearing::{Arrival, heard};
 use super::levels::{byte_of, level_of};
-use super::said::agree;
+use super::said::Both;
 use super::shape::Shape;
 use super::tally::{Case, Tally};
 use super::times::End;
@@ -131,10 +131,8 @@ struct Scanned {
     seed: u16,
     end: End,
     picture: Vec<u8>,
-    own: Result<usize, Refusal>,
-    own_list: Vec<(u16, u8)>,
-    library: Result<usize, Refusal>,
-    library_list: Vec<(u16, u8)>,
+    counts: Both<Result<usize, Refusal>>,
+    lists: Both<Vec<(u16, u8)>>,
 }
 
 impl Scanned {
@@ -147,31 +145,27 @@ impl Scanned {
         };
         let picture = some_picture(heap, &end, &mut dice)?;
         let places = if dice.one_in(10) { 2 } else { 40 };
-        let mut own_list = vec![in heap; KEPT; places]?;
-        let mut library_list = vec![in heap; KEPT; places]?;
+        let mut own = vec![in heap; KEPT; places]?;
+        let mut library = vec![in heap; KEPT; places]?;
         let levels = levels(heap, picture.as_slice())?;
         let arrivals = heard(heap, &end, levels.as_slice())?;
-        let own = listed(
-            picture.as_slice(),
-            arrivals.as_slice(),
-            own_list.as_mut_slice(),
-        );
-        let library = scan(&timing, picture.as_slice(), library_list.as_mut_slice());
+        let counts = Both {
+            own: listed(picture.as_slice(), arrivals.as_slice(), own.as_mut_slice()),
+            library: scan(&timing, picture.as_slice(), library.as_mut_slice()),
+        };
         Ok(Some(Scanned {
             seed,
             end,
             picture,
-            own,
-            own_list,
-            library,
-            library_list,
+            counts,
+            lists: Both { own, library },
         }))
     }
 }
 
 impl Case for Scanned {
     fn is_same(&self) -> bool {
-        agree(&self.own, &self.library) && self.own_list == self.library_list
+        self.counts.agree() && self.lists.own == self.lists.library
     }
 }
 
@@ -179,12 +173,7 @@ impl fmt::Display for Scanned {
     fn fmt<W: fmt::Write>(&self, f: &mut fmt::Formatter<W>) -> fmt::Result {
         let seed = self.seed;
         writeln!(f, "seed {seed}, {}, picture {:?}", self.end, self.picture)?;
-        writeln!(
-            f,
-            "  the library        {:?} {:?}",
-            self.library, self.library_list
-        )?;
-        writeln!(f, "  the other emulator {:?} {:?}", self.own, self.own_list)
+        write!(f, "{}{}", self.counts, self.lists)
     }
 }
 

@@ -228,8 +228,7 @@ const FAST_CLOCK: [(u32, u8, u8, u8); 13] = [
 ];
 
 fn check_rows(rt: &impl Abort, clock: u32, rows: &[(u32, u8, u8, u8)]) -> Result<(), Fail> {
-    for row in rows {
-        let (baud, high, low, modulator) = *row;
+    for &(baud, high, low, modulator) in rows {
         let Some(settings) = built_in(clock, baud) else {
             return Err(Fail::new("a row is missing"));
         };
