@@ -80,9 +80,9 @@ goes_on s f lengths (Some x) w some h =
     subst (λ (l : List Level). holding s l w ≡ ready s l w) (sym (same_bit f lengths x.digits x.bit x.clocks h)) refl
 
 -- a shift register in use has levels left
-pub something_left : (f : Format) (lengths : List ℕ) (o : Option Shift) (x : Shift) → o ≡ Some x → 0 < clocks_of o → empty (left_of f lengths o) ≡ false
-something_left f lengths None x is h = absurd (let z : ◌≡◌ {A = ℕ} 0 1 = cc in omega arith)
-something_left f lengths (Some y) x is h = ap empty (same_bit f lengths y.digits y.bit y.clocks h)
+pub something_left : (f : Format) (lengths : List ℕ) (o : Option Shift) → is_some o ≡ true → 0 < clocks_of o → empty (left_of f lengths o) ≡ false
+something_left f lengths None some h = absurd (let z : ◌≡◌ {A = ℕ} 0 1 = cc in omega arith)
+something_left f lengths (Some y) some h = ap empty (same_bit f lengths y.digits y.bit y.clocks h)
 
 -- a bare sender that has nothing to send is in range
 pub sound_rest : (t : Timing) → SoundSender (at_rest t)

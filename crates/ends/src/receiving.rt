@@ -1,10 +1,10 @@
 // How the bare receiver receives.
-ghost use Rattle.std.specs.Prelude.{◌≡◌, ℕ, ◌+◌, ◌*◌, ◌^◌, ◌<◌, ◌≤◌, [], ◌∷◌, ◌++◌, length, replicate, slice_index_or};
+ghost use Rattle.std.specs.Prelude.{◌≡◌, ℕ, ◌+◌, ◌*◌, ◌^◌, ◌<◌, ◌≤◌, [], ◌∷◌, ◌++◌, length, replicate, slice_index_or, if◌then◌else◌, slice_get};
 ghost use Rattle.std.specs.Option.{option_to_list};
 ghost use Rattle.line.specs.declared.level.Level.TheVariants.{Space, Mark};
 ghost use Rattle.line.specs.Levels.{number, low_bits};
 ghost use Rattle.line.specs.Frames.{first_stop};
-ghost use Rattle.ends.specs.Receiver.{falling_on, falling_before, majority, decided, entry_of, joined, heard_in_frame, nothing, framing, taken_now};
+ghost use Rattle.ends.specs.Receiver.{falling_on, falling_before, majority, decided, entry_of, joined, heard_in_frame, nothing, idle, framing, going_on, taken_now};
 ghost use Rattle.ends.specs.Samples.{taken};
 ghost use Rattle.ends.specs.BareReceiver.{meant, at_rest, heard_of};
 ghost use Rattle.ends.specs.Timed.{sample_clocks};
@@ -17,7 +17,7 @@ use super::samples::Samples;
 use super::timing::Timing;
 use line::{Format, Level, Refusal};
 
-// The flags of an entry.
+// The flags of an entry, which is a pair of plain numbers: each flag is one bit of the second.
 pub const OVERRUN: u8 = 1;
 
 pub const PARITY: u8 = 2;
@@ -25,6 +25,15 @@ pub const PARITY: u8 = 2;
 pub const FRAMING: u8 = 4;
 
 pub const BREAK: u8 = 8;
+
+impl Timing {
+    // The clock of this sample, if a frame has so many.
+    fn sample(&self, sample: usize) -> Option<u32>
+        ensures { result ≡ slice_get (sample_clocks self.now) sample }
+    {
+        self.samples[..self.sample_count].get(sample).copied()
+    }
+}
 
 impl Samples {
     fn none() -> Samples
@@ -50,7 +59,7 @@ impl Samples {
         requires { self.old.count ≡ falling_before clock (sample_clocks timing.now) }
         ensures { taken self.new ≡ taken_now (sample_clocks timing.now) clock (taken self.old) level }
     {
-        while self.count < timing.sample_count && timing.samples[self.count] == clock {
+        while timing.sample(self.count) == Some(clock) {
             self.push(level);
         }
     }
@@ -75,12 +84,16 @@ impl Samples {
     {
         let mut digits = 0;
         for k in (0..bits).rev() {
-            digits *= 2;
-            if let Level::Mark = self.bit(k) {
-                digits += 1;
-            }
+            digits = 2 * digits + u16::from(u8::from(self.bit(k)));
         }
         digits
+    }
+
+    // Whether the start bit was decided as mark.
+    fn is_false_start(&self) -> bool
+        ensures { (n : ℕ) → (if result then idle else framing n (taken self.now)) ≡ going_on (decided (taken self.now)) n (taken self.now) }
+    {
+        self.count >= 3 && self.bit(0) == Level::Mark
     }
 
     // Those of a frame after its first clock, whose level is space.
@@ -110,10 +123,8 @@ impl Samples {
             let (character, flags) = entry(timing.format, digits);
             return Progress::Over(character, flags);
         }
-        if self.count >= 3 {
-            if let Level::Mark = self.bit(0) {
-                return Progress::FalseStart;
-            }
+        if self.is_false_start() {
+            return Progress::FalseStart;
         }
         Progress::GoesOn
     }
@@ -122,12 +133,7 @@ impl Samples {
 fn majority(first: Level, second: Level, third: Level) -> Level
     ensures { result ≡ majority first second third }
 {
-    match (first, second) {
-        (Level::Mark, Level::Mark) => Level::Mark,
-        (Level::Mark, Level::Space) => third,
-        (Level::Space, Level::Mark) => third,
-        (Level::Space, Level::Space) => Level::Space,
-    }
+    if first == second { first } else { third }
 }
 
 // The character and the flags of a frame whose bits were decided as these digits.
@@ -138,17 +144,16 @@ fn entry(format: Format, digits: u16) -> (u16, u8)
     let parities = format.parity_values();
     let character = digits / 2 % characters;
     let above = digits / 2 / characters;
-    let parity = if above % parities == format.parity_bit(character) {
-        0
-    } else {
-        PARITY
-    };
-    let framing = if above / parities % 2 == 1 {
-        0
-    } else {
-        FRAMING
-    };
+    let parity = unless(above % parities == format.parity_bit(character), PARITY);
+    let framing = unless(above / parities % 2 == 1, FRAMING);
     (character, parity + framing)
+}
+
+// A flag that is set where the rule does not hold.
+fn unless(holds: bool, flag: u8) -> u8
+    ensures { result ≡ if holds then 0 else flag }
+{
+    if holds { 0 } else { flag }
 }
 
 // The unread entry after this one has arrived: one that was never read leaves its flags.
@@ -184,11 +189,7 @@ impl Receiver for BareReceiver {
     }
 
     fn sample_clock(&self, sample: usize) -> u32 {
-        if sample < self.timing.sample_count {
-            self.timing.samples[sample]
-        } else {
-            0
-        }
+        self.timing.sample(sample).unwrap_or(0)
     }
 
     fn clock(&mut self, level: Level) {
@@ -232,10 +233,6 @@ impl Receiver for BareReceiver {
     }
 
     fn read(&mut self) -> Result<(u16, u8), Refusal> {
-        let Some(entry) = self.unread else {
-            return Err(Refusal::NothingUnread);
-        };
-        self.unread = None;
-        Ok(entry)
+        self.unread.take().ok_or(Refusal::NothingUnread)
     }
 }

@@ -14,8 +14,8 @@ pub fn send<S: Sender>(sender: &mut S, levels: &mut [Level])
     ensures state { S.meaning sender.new ≡ after_sends (S.meaning sender.old) (length levels.old) }
     ensures due { (n : ℕ) → Sends (S.meaning sender.old) n }
 {
-    for i in 0..levels.len() {
-        levels[i] = sender.clock();
+    for level in levels.iter_mut() {
+        *level = sender.clock();
     }
 }
 

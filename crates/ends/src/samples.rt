@@ -1,4 +1,4 @@
-// The samples of a frame so far.
+// The samples of a frame so far: an array and a count, in fixed memory, since a receiver is `Copy` and an `ArrayVec` is not.
 ghost use Rattle.std.specs.Prelude.{◌≡◌, ◌≤◌, length};
 
 use line::Level;

@@ -14,9 +14,6 @@ use super::shift::Shift;
 use super::timing::Timing;
 use line::{Format, Level, Refusal};
 
-// No frame has more bits.
-const MOST_BITS: usize = 13;
-
 impl Shift {
     fn begin(timing: &Timing, character: u16) -> Shift
         ensures levels { shift_levels timing.now.format timing.now.lengths result ≡ held timing.now.lengths (frame timing.now.format character) }
@@ -33,11 +30,7 @@ impl Shift {
     fn level(self) -> Level
         ensures { result ≡ level_of (self.digits % 2) }
     {
-        if self.digits % 2 == 0 {
-            Level::Space
-        } else {
-            Level::Mark
-        }
+        Level::from_digit(self.digits % 2)
     }
 
     // What is left after this clock.
@@ -87,22 +80,18 @@ impl BareSender {
     pub fn is_done(&self) -> bool
         ensures { result ≡ empty (meant self.now).left && empty (meant self.now).waiting }
     {
-        match self.shift {
-            Some(_) => false,
-            None => self.has_room(),
-        }
+        self.shift.is_none() && self.has_room()
     }
 
     // Where nothing is left on the line, the character that waits moves into the shift register.
     fn make_ready(&mut self)
         ensures { meant self.new ≡ ready (meant self.old) (meant self.old).left (meant self.old).waiting }
     {
-        if self.shift.is_some() {
-            return;
-        }
-        if let Some(character) = self.waiting {
-            self.shift = Some(Shift::begin(&self.timing, character));
-            self.waiting = None;
+        if self.shift.is_none() {
+            self.shift = self
+                .waiting
+                .take()
+                .map(|character| Shift::begin(&self.timing, character));
         }
     }
 }
@@ -117,11 +106,7 @@ impl Sender for BareSender {
     }
 
     fn bit_length(&self, bit: usize) -> u32 {
-        if bit < MOST_BITS {
-            self.timing.lengths[bit]
-        } else {
-            0
-        }
+        self.timing.lengths.get(bit).copied().unwrap_or(0)
     }
 
     fn load(&mut self, character: u16) -> Result<(), Refusal> {

@@ -13,7 +13,7 @@ pub struct Timing {
     pub lengths: [u32; 13],
     // the three clocks at which each bit is sampled, counted from the frame's first clock, one bit after the other
     pub samples: [u32; 36],
-    // how many samples are taken of a frame: three for each bit through the first stop bit
+    // how many samples are taken of a frame: three for each bit through the first stop bit; public, and part of what a kind of end builds
     pub sample_count: usize,
     // how many spaces after a framing fault make a break
     pub break_length: u32,

@@ -14,7 +14,7 @@ use Rattle.ends.proofs.samples.Samples.digits.Goals as goal
 turn : (s : Samples) (bits k d : ℕ) (b : Level) → s.count ≡ 3 * bits → 0 < k → k ≤ bits
     → b ≡ majority (get_or s.levels (3 * (k - 1)) Space) (get_or s.levels (3 * (k - 1) + 1) Space) (get_or s.levels (3 * (k - 1) + 2) Space)
     → d ≡ number (decided (drop (3 * k) (taken s))) → d < 2 ^ (bits - k)
-    → (d * 2 + byte_of b ≡ number (decided (drop (3 * (k - 1)) (taken s)))) × (d * 2 + byte_of b < 2 ^ (bits - (k - 1)))
+    → (2 * d + byte_of b ≡ number (decided (drop (3 * (k - 1)) (taken s)))) × (2 * d + byte_of b < 2 ^ (bits - (k - 1)))
 turn s bits k d b count some most is value bound =
     let back : k - 1 + 1 ≡ k = omega arith in
     let power : 2 ^ (bits - (k - 1)) ≡ 2 ^ (bits - k) * 2 = ap (λ (x : ℕ). 2 ^ x) (longer bits k some most) ∙ pow-suc 2 (bits - k) in
@@ -23,7 +23,7 @@ turn s bits k d b count some most is value bound =
     longer : (bits k : ℕ) → 0 < k → k ≤ bits → bits - (k - 1) ≡ suc (bits - k)
     longer bits k some most = omega arith
 
-    low : (b : Level) → d * 2 + byte_of b ≡ number (b ∷ decided (drop (3 * k) (taken s)))
+    low : (b : Level) → 2 * d + byte_of b ≡ number (b ∷ decided (drop (3 * k) (taken s)))
     low Space = omega (arith, value)
     low Mark = omega (arith, value)
 
@@ -37,11 +37,8 @@ loop-k-init c =
     let none : drop (3 * c.args.bits) (taken s) ≡ [] = drop_all (3 * c.args.bits) (taken s) (omega (arith, c.requires, taken_length s)) in
     (sym (ap (λ (l : List Level). number (decided l)) none), pow_pos (c.args.bits - c.args.bits))
 
-pub loop-k-preserved-in-Mark : goal.loop-k-preserved-in-Mark
-loop-k-preserved-in-Mark c =
-    turn c.args.self.now c.args.bits c.loop-k.k c.loop-k.digits Mark c.requires c.loop-k-test.true c.loop-k.auto.k c.in-Mark.ensures c.loop-k.invariant.0 c.loop-k.invariant.1
-
 pub loop-k-preserved : goal.loop-k-preserved
 loop-k-preserved c =
-    let t = turn c.args.self.now c.args.bits c.loop-k.k c.loop-k.digits Space c.requires c.loop-k-test.true c.loop-k.auto.k c.in_default.ensures c.loop-k.invariant.0 c.loop-k.invariant.1 in
-    (omega (arith, t.0), omega (arith, t.1))
+    let t = turn c.args.self.now c.args.bits c.loop-k.k c.loop-k.digits c.bit.result c.requires c.loop-k-test.true c.loop-k.auto.k c.bit.ensures c.loop-k.invariant.0 c.loop-k.invariant.1 in
+    let digit : c.from-in-loop-k.result ≡ byte_of c.bit.result = c.from-in-loop-k.ensures ∙ c.from.ensures in
+    (omega (arith, digit, t.0), omega (arith, digit, t.1))

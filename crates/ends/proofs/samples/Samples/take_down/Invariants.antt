@@ -4,10 +4,10 @@ use Rattle.ends.specs.Timed.{sample_clocks}
 use Rattle.ends.specs.Samples.{taken}
 use Rattle.ends.proofs.samples.Samples.take_down.Given as goal
 
-abbrev pub invariant-loop-self : goal.invariant-loop-self
-invariant-loop-self l = (l.initial.self.count ≤ l.self.count)
+abbrev pub invariant-loop-level : goal.invariant-loop-level
+invariant-loop-level l = (l.initial.self.count ≤ l.self.count)
     × (taken l.self ++ replicate (falling_on l.clock (drop l.self.count (sample_clocks l.timing))) l.level
     ≡ taken l.initial.self ++ replicate (falling_on l.clock (drop l.initial.self.count (sample_clocks l.timing))) l.level)
 
-abbrev pub decreases-loop-self : goal.decreases-loop-self
-decreases-loop-self l = 36 - l.self.count
+abbrev pub decreases-loop-level : goal.decreases-loop-level
+decreases-loop-level l = 36 - l.self.count
