@@ -1,9 +1,27 @@
 -- The items of a ring when one joins and when the oldest leaves.
-use Rattle.std.specs.Prelude.{◌≡◌, ℕ, ◌+◌, ◌-◌, ◌%◌, ◌<◌, ◌≤◌, ◌≢◌, List, [], ◌∷◌, ◌++◌, length, get_or, drop, set, slice_index_or, slice_set}
+use Rattle.std.specs.Prelude.{◌≡◌, ℕ, ◌+◌, ◌-◌, ◌%◌, ◌<◌, ◌≤◌, ◌≢◌, List, [], ◌∷◌, ◌++◌, length, get_or, take, drop, set, slice_index_or, slice_set}
 use Rattle.std.proofs.Common.{sym, ap, ◌∙◌, ⊎_elim, arith}
-use Rattle.std.proofs.lemmas.List.{length-drop, length-set, get_or-take, get_or-drop, get_or_append_left, get_or-append_right, get_or-set_same, get_or-set_other, take_more, drop_more, same_lists}
+use Rattle.std.proofs.lemmas.List.{length-append, length-drop, length-set, length-take-le, get_or-take, get_or-drop, get_or_append_left, get_or-append_right, get_or-set_same, get_or-set_other, take_more, drop_more, same_lists}
 use Rattle.std.proofs.lemmas.Bool.{cases_lt}
-use Rattle.queue.specs.Soundness.{from_place, rest_length, items_length}
+use Rattle.queue.specs.declared.ring.Ring.TheInside.{Inside}
+use Rattle.queue.specs.Rings.{items, InRange}
+
+-- n items from place f on
+abbrev pub from_place : {A : Type 0} → List A → ℕ → ℕ → List A
+from_place xs f n = take n (drop f (xs ++ xs))
+
+module _ {A : Type 0} (xs : List A) (f n : ℕ) (size : length xs ≡ 16) (inside : f < 16) where
+  pub rest_length : length (drop f (xs ++ xs)) ≡ 32 - f
+  rest_length = omega (arith, length-drop f (xs ++ xs), length-append xs xs)
+
+  pub items_length : n ≤ 16 → length (from_place xs f n) ≡ n
+  items_length few = length-take-le n (drop f (xs ++ xs)) (omega (arith, rest_length))
+
+pub count_is : {A : Type 0} (r : Inside A) → InRange r → length (items r) ≡ r.count
+count_is r ok = items_length r.places r.first r.count ok.sixteen ok.inside ok.few
+
+pub few_items : {A : Type 0} (r : Inside A) → InRange r → length (items r) ≤ 16
+few_items r ok = omega (arith, count_is r ok, ok.few)
 
 twice : {A : Type 0} (xs : List A) (j : ℕ) (d : A) → length xs ≡ 16 → j < 32 → slice_index_or (xs ++ xs) j d ≡ slice_index_or xs (j % 16) d
 twice xs j d size h = ⊎_elim

@@ -1,31 +1,12 @@
 -- That a queue in front of any sender is what any sender is: the lemmas of the law that its `impl` states.
-use Rattle.std.specs.Prelude.{◌≡◌, ℕ, ◌+◌, ◌-◌, ◌^◌, ◌<◌, ◌≤◌, List, ◌++◌, map, length, take, drop, slice_index, refl}
+use Rattle.std.specs.Prelude.{◌≡◌, ℕ, ◌+◌, ◌-◌, ◌^◌, ◌<◌, ◌≤◌, List, ◌++◌, map, length, slice_index, refl}
 use Rattle.std.proofs.Common.{sym, subst, ◌∙◌, ⊎_elim, mod-lt, arith, pow_pos}
-use Rattle.std.proofs.lemmas.List.{length-append, length-drop, length-map, length-take-le, get_or_append_left, get_or-append_right, get_or-map}
+use Rattle.std.proofs.lemmas.List.{length-append, length-map, get_or_append_left, get_or-append_right, get_or-map}
 use Rattle.std.proofs.lemmas.Bool.{cases_lt}
 use Rattle.line.specs.declared.format.Format.{Format}
 use Rattle.line.specs.Frames.{width}
 use Rattle.ends.specs.Sender.{SenderState, SoundSender}
 use Rattle.queue.specs.Queues.{cut, queued_to}
-use Rattle.queue.specs.declared.ring.Ring.{Ring}
-use Rattle.queue.specs.Rings.{items}
-
--- n items from place f on
-abbrev pub from_place : {A : Type 0} → List A → ℕ → ℕ → List A
-from_place xs f n = take n (drop f (xs ++ xs))
-
-module _ {A : Type 0} (xs : List A) (f n : ℕ) (size : length xs ≡ 16) (inside : f < 16) where
-  pub rest_length : length (drop f (xs ++ xs)) ≡ 32 - f
-  rest_length = omega (arith, length-drop f (xs ++ xs), length-append xs xs)
-
-  pub items_length : n ≤ 16 → length (from_place xs f n) ≡ n
-  items_length few = length-take-le n (drop f (xs ++ xs)) (omega (arith, rest_length))
-
-pub count_is : {A : Type 0} (r : Ring A) → length (items r) ≡ r.count
-count_is r = items_length r.places r.first r.count r.sixteen r.inside r.few
-
-pub few_items : {A : Type 0} (r : Ring A) → length (items r) ≤ 16
-few_items r = omega (arith, count_is r, r.few)
 
 pub cut_narrow : (f : Format) (c : ℕ) → cut f c < 2 ^ width f
 cut_narrow f c = mod-lt c (pow_pos (width f))

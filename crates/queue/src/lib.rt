@@ -2,7 +2,6 @@
 
 #![tactic(auto)]
 
-pub mod holding;
 pub mod receive_queue;
 pub mod ring;
 pub mod send_queue;

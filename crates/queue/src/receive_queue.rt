@@ -1,10 +1,9 @@
 // A queue behind a receiver, which is a receiver too.
-ghost use Rattle.std.specs.Prelude.{◌≡◌, ◌<◌, []};
-ghost use Rattle.queue.specs.Rings.{items};
+ghost use Rattle.std.specs.Prelude.{◌≡◌, ◌<◌, ◌≤◌, [], length};
 ghost use Rattle.queue.specs.Queues.{queued_from};
 ghost use Rattle.std.proofs.Common.{rules};
 
-use super::ring::{PLACES, Ring};
+use super::ring::Ring;
 use ends::Receiver;
 use line::{Format, Level, Refusal};
 
@@ -13,12 +12,13 @@ pub struct ReceiveQueue<R: Receiver> {
     pub(crate) below: R,
     // characters and their flags
     pub(crate) held: Ring<(u16, u8)>,
+    ghost few: { length held ≤ 16 },
 }
 
 impl<R: Receiver> ReceiveQueue<R> {
     pub fn new(below: R) -> ReceiveQueue<R>
         ensures below { result.below ≡ below }
-        ensures meaning { queued_from (R.meaning result.below) (items result.held) ≡ queued_from (R.meaning below) [] }
+        ensures meaning { queued_from (R.meaning result.below) result.held ≡ queued_from (R.meaning below) [] }
     {
         ReceiveQueue {
             below,
@@ -28,10 +28,10 @@ impl<R: Receiver> ReceiveQueue<R> {
 
     // Takes over what is unread below, so that an entry is left there only where the queue is full.
     fn take_over(&mut self)
-        ensures same { queued_from (R.meaning self.new.below) (items self.new.held) ≡ queued_from (R.meaning self.old.below) (items self.old.held) }
-        ensures emptied { self.new.held.count < 16 → (R.meaning self.new.below).unread ≡ [] }
+        ensures same { queued_from (R.meaning self.new.below) self.new.held ≡ queued_from (R.meaning self.old.below) self.old.held }
+        ensures emptied { length self.new.held < 16 → (R.meaning self.new.below).unread ≡ [] }
     {
-        while self.held.count < PLACES {
+        while !self.held.is_full() {
             let Ok(entry) = self.below.read() else {
                 return;
             };
@@ -41,7 +41,7 @@ impl<R: Receiver> ReceiveQueue<R> {
 }
 
 impl<R: Receiver> Receiver for ReceiveQueue<R> {
-    ghost meaning = { λ q. queued_from (R.Receiver.meaning q.below) (items q.held) };
+    ghost meaning = { λ q. queued_from (R.Receiver.meaning q.below) q.held };
 
     ghost sound = { Prim.search rules };
 
@@ -59,10 +59,9 @@ impl<R: Receiver> Receiver for ReceiveQueue<R> {
     }
 
     fn read(&mut self) -> Result<(u16, u8), Refusal> {
-        let Some(entry) = self.held.oldest() else {
+        let Some(entry) = self.held.pop() else {
             return self.below.read();
         };
-        self.held.remove_oldest();
         Ok(entry)
     }
 }

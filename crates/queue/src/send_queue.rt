@@ -1,10 +1,9 @@
 // A queue in front of a sender, which is a sender too.
-ghost use Rattle.std.specs.Prelude.{◌≡◌, ◌<◌, [], length};
-ghost use Rattle.queue.specs.Rings.{items};
+ghost use Rattle.std.specs.Prelude.{◌≡◌, ◌<◌, ◌≤◌, [], length};
 ghost use Rattle.queue.specs.Queues.{queued_to};
-ghost use Rattle.queue.specs.Soundness.{few_items, sound_queued};
+ghost use Rattle.queue.specs.Soundness.{sound_queued};
 
-use super::ring::{PLACES, Ring};
+use super::ring::Ring;
 use ends::Sender;
 use line::{Format, Level, Refusal};
 
@@ -12,12 +11,13 @@ use line::{Format, Level, Refusal};
 pub struct SendQueue<S: Sender> {
     pub(crate) below: S,
     pub(crate) held: Ring<u16>,
+    ghost few: { length held ≤ 16 },
 }
 
 impl<S: Sender> SendQueue<S> {
     pub fn new(below: S) -> SendQueue<S>
         ensures below { result.below ≡ below }
-        ensures meaning { queued_to (S.meaning result.below) (items result.held) ≡ queued_to (S.meaning below) [] }
+        ensures meaning { queued_to (S.meaning result.below) result.held ≡ queued_to (S.meaning below) [] }
     {
         SendQueue {
             below,
@@ -27,8 +27,8 @@ impl<S: Sender> SendQueue<S> {
 
     // Hands down what fits, so that a character is held only where the sender below is full.
     fn hand_down(&mut self)
-        ensures same { queued_to (S.meaning self.new.below) (items self.new.held) ≡ queued_to (S.meaning self.old.below) (items self.old.held) }
-        ensures full { 0 < self.new.held.count → length (S.meaning self.new.below).waiting ≡ (S.meaning self.new.below).capacity }
+        ensures same { queued_to (S.meaning self.new.below) self.new.held ≡ queued_to (S.meaning self.old.below) self.old.held }
+        ensures full { 0 < length self.new.held → length (S.meaning self.new.below).waiting ≡ (S.meaning self.new.below).capacity }
     {
         while let Some(character) = self.held.oldest() {
             // `load` lets no wider character in, but only the cut shows it
@@ -36,15 +36,15 @@ impl<S: Sender> SendQueue<S> {
             if self.below.load(character % characters).is_err() {
                 return;
             }
-            self.held.remove_oldest();
+            self.held.pop();
         }
     }
 }
 
 impl<S: Sender> Sender for SendQueue<S> {
-    ghost meaning = { λ q. queued_to (S.Sender.meaning q.below) (items q.held) };
+    ghost meaning = { λ q. queued_to (S.Sender.meaning q.below) q.held };
 
-    ghost sound = { λ q. sound_queued (S.Sender.meaning q.below) (items q.held) (few_items q.held) (S.Sender.sound q.below) };
+    ghost sound = { λ q. sound_queued (S.Sender.meaning q.below) q.held q.few (S.Sender.sound q.below) };
 
     fn format(&self) -> Format {
         self.below.format()
@@ -59,7 +59,7 @@ impl<S: Sender> Sender for SendQueue<S> {
             return Err(Refusal::TooWide);
         }
         self.hand_down();
-        if self.held.count == PLACES {
+        if self.held.is_full() {
             return Err(Refusal::Full);
         }
         self.held.push(character);

@@ -1,9 +1,11 @@
 -- The place written is that after the last item, and none of theirs.
-use Rattle.std.proofs.Common.{◌+◌, refl}
-use Rattle.queue.proofs.Rings.{after_push}
+use Rattle.std.proofs.Common.{[], ◌∷◌, ◌++◌, length, ap, ◌∙◌, arith}
+use Rattle.queue.proofs.Rings.{count_is, after_push}
 use Rattle.queue.proofs.ring.Ring.push.Goals as goal
 
 pub returns : goal.returns
 returns g c =
-    let r = c.args.self.now in
-    record { items = after_push r.places r.first r.count r.sixteen r.inside c.args.item c.requires; count = refl {a = r.count + 1} }
+    let r = c.self.inside in
+    let ok = c.self.invariant in
+    after_push r.places r.first r.count ok.sixteen ok.inside c.args.item (omega (arith, c.requires, count_is r ok, ap length c.self.view_is))
+    ∙ ap (λ items. items ++ c.args.item ∷ []) c.self.view_is
