@@ -1,5 +1,5 @@
 -- What has happened on a link since a moment.
-use Rattle.std.specs.Prelude.{ℕ, pred, ◌+◌, Bool, true, false, cond, List, [], ◌∷◌, ◌++◌, length, take, nat_le}
+use Rattle.std.specs.Prelude.{ℕ, pred, ◌+◌, Bool, true, false, if◌then◌else◌, List, [], ◌∷◌, ◌++◌, length, take, nat_le}
 use Rattle.line.specs.declared.level.Level.{Level}
 use Rattle.ends.specs.Sender.{SenderState, accepted}
 use Rattle.ends.specs.Receiver.{ReceiverState, Entry, hears}
@@ -42,53 +42,25 @@ characters (e ∷ es) = e.0 ∷ characters es
 -- the arrival with number n joins the unread ones, or takes the newest one's place
 abbrev pub numbered : ℕ → List ℕ → List Entry → ℕ → List ℕ
 numbered room us [] n = us
-numbered room us (e ∷ es) n = cond (nat_le room (length us)) (take (pred (length us)) us) us ++ (n ∷ [])
+numbered room us (e ∷ es) n = (if nat_le room (length us) then take (pred (length us)) us else us) ++ (n ∷ [])
 
 abbrev pub noted_load : Bool → ℕ → History → History
-noted_load ok c h = record {
-  accepted = cond ok (h.accepted ++ (c ∷ [])) h.accepted;
-  sends = h.sends;
-  begun = h.begun;
-  given = h.given;
-  received = h.received;
-  unread = h.unread;
-  reads = h.reads;
-}
+noted_load ok c h = record h { accepted = if ok then h.accepted ++ (c ∷ []) else h.accepted }
 
 abbrev pub noted_send : Bool → History → History
-noted_send starts h = record {
-  accepted = h.accepted;
-  sends = h.sends + 1;
-  begun = cond starts (h.begun ++ (h.sends ∷ [])) h.begun;
-  given = h.given;
-  received = h.received;
-  unread = h.unread;
-  reads = h.reads;
-}
+noted_send starts h = record h { sends = h.sends + 1; begun = if starts then h.begun ++ (h.sends ∷ []) else h.begun }
 
 abbrev pub noted_clock : ReceiverState → Level → History → History
-noted_clock r l h = record {
-  accepted = h.accepted;
-  sends = h.sends;
-  begun = h.begun;
+noted_clock r l h = record h {
   given = h.given ++ (h.sends ∷ []);
   received = h.received ++ characters (hears r l).arrived;
   unread = numbered r.capacity h.unread (hears r l).arrived (length h.received);
-  reads = h.reads;
 }
 
 abbrev pub noted_read : List ℕ → List Entry → History → History
 noted_read [] es h = h
 noted_read (n ∷ ns) [] h = h
-noted_read (n ∷ ns) (e ∷ es) h = record {
-  accepted = h.accepted;
-  sends = h.sends;
-  begun = h.begun;
-  given = h.given;
-  received = h.received;
-  unread = ns;
-  reads = h.reads ++ ((n, e) ∷ []);
-}
+noted_read (n ∷ ns) (e ∷ es) h = record h { unread = ns; reads = h.reads ++ ((n, e) ∷ []) }
 
 abbrev pub noted : LinkState → Act → History → History
 noted m (Load c) h = noted_load (accepted (loading m c)) c h

@@ -1,5 +1,5 @@
 -- A sender and a receiver joined by a line, and what each act does to them.
-use Rattle.std.specs.Prelude.{◌≡◌, ℕ, cond, List, [], ◌∷◌, Err, Result}
+use Rattle.std.specs.Prelude.{◌≡◌, ℕ, if◌then◌else◌, List, [], ◌∷◌, Err, Result}
 use Rattle.line.specs.declared.level.Level.{Level}
 use Rattle.line.specs.declared.level.Level.TheVariants.{Mark}
 use Rattle.line.specs.declared.refusal.Refusal.{Refusal}
@@ -27,13 +27,13 @@ pub record AtRest (m : LinkState) : Type 0 where
 
 -- what a load answers: it is refused where the formats of the ends do not agree
 abbrev pub loading : LinkState → ℕ → Result Unit Refusal
-loading m c = cond (agree m.sender.format m.receiver.format) (load_answer m.sender c) (Err FormatsDiffer)
+loading m c = if agree m.sender.format m.receiver.format then load_answer m.sender c else Err FormatsDiffer
 
 abbrev pub linked : SenderState → ReceiverState → Level → LinkState
 linked s r l = record { sender = s; receiver = r; line = l }
 
 abbrev pub after_act : LinkState → Act → LinkState
-after_act m (Load c) = linked (cond (agree m.sender.format m.receiver.format) (after_load m.sender c) m.sender) m.receiver m.line
+after_act m (Load c) = linked (if agree m.sender.format m.receiver.format then after_load m.sender c else m.sender) m.receiver m.line
 after_act m Send = linked (after_send m.sender) m.receiver (sent m.sender)
 after_act m Receive = linked m.sender (after_clock m.receiver m.line) m.line
 after_act m (Noise l) = linked m.sender (after_clock m.receiver l) m.line
