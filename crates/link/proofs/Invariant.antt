@@ -25,53 +25,61 @@ pub record Always (m : LinkState) (w : List ℕ) (us : List Entry) (h : History)
   pub kept : Kept h.received h.unread h.reads us
 
 -- before the first frame
-pub record Fresh (lf : List Level) (p : Level) (d : Doing) (l : Level) (h : History) : Type 0 where
-  pub begun_is : h.begun ≡ []
+pub record Fresh (lf : List Level) (p : Level) (d : Doing) (l : Level) (begun received : List ℕ) : Type 0 where
+  pub begun_is : begun ≡ []
   pub left_is : lf ≡ []
   pub line_is : l ≡ Mark
   pub doing_is : d ≡ idle
   pub previous_is : p ≡ Mark
-  pub received_none : length h.received ≡ 0
+  pub received_none : length received ≡ 0
 
--- the last frame begun, at send clock q, of which send clock j was the last one; `past` are the frames before it
-pub record Amid (m : LinkState) (lf : List Level) (l : Level) (h : History) (past : List ℕ) (q j : ℕ) : Type 0 where
-  pub begun_is : h.begun ≡ past ++ (q ∷ [])
-  pub at : h.sends ≡ q + suc j
-  pub left_is : lf ≡ drop (suc j) (frame_levels m.sender (get_or h.accepted (length past) 0))
-  pub line_is : l ≡ get_or (frame_levels m.sender (get_or h.accepted (length past) 0)) j Mark
+-- the last frame begun, of character c at send clock q, of which send clock j was the last one; `past` are the frames before it
+pub record Amid (m : LinkState) (lf : List Level) (l : Level) (begun : List ℕ) (sends c : ℕ) (past : List ℕ) (q j : ℕ) : Type 0 where
+  pub begun_is : begun ≡ past ++ (q ∷ [])
+  pub at : sends ≡ q + suc j
+  pub left_is : lf ≡ drop (suc j) (frame_levels m.sender c)
+  pub line_is : l ≡ get_or (frame_levels m.sender c) j Mark
 
 -- it has been received
-pub record Over (m : LinkState) (p : Level) (d : Doing) (h : History) (past : List ℕ) (q : ℕ) : Type 0 where
+pub record Over (m : LinkState) (p : Level) (d : Doing) (received : List ℕ) (sends : ℕ) (past : List ℕ) (q : ℕ) : Type 0 where
   pub doing_is : d ≡ idle
   pub previous_is : p ≡ Mark
-  pub received_all : length h.received ≡ suc (length past)
-  pub stopped : q + start_of m.sender.lengths (first_stop m.sender.format) < h.sends
+  pub received_all : length received ≡ suc (length past)
+  pub stopped : q + start_of m.sender.lengths (first_stop m.sender.format) < sends
 
 -- no receive clock has been given since it began
-pub record Due (p : Level) (d : Doing) (h : History) (past : List ℕ) (q : ℕ) : Type 0 where
+pub record Due (p : Level) (d : Doing) (received given past : List ℕ) (q : ℕ) : Type 0 where
   pub doing_is : d ≡ idle
   pub previous_is : p ≡ Mark
-  pub received_past : length h.received ≡ length past
-  pub before : (i : ℕ) → i < length h.given → get_or h.given i 0 ≤ q
+  pub received_past : length received ≡ length past
+  pub before : (i : ℕ) → i < length given → get_or given i 0 ≤ q
 
 -- the receiver is in it
-pub record Inside (m : LinkState) (d : Doing) (h : History) (past : List ℕ) (q : ℕ) : Type 0 where
+pub record Inside (m : LinkState) (d : Doing) (received given : List ℕ) (c : ℕ) (past : List ℕ) (q : ℕ) : Type 0 where
   pub n : ℕ
   pub ls : List Level
   pub e : ℕ
   pub doing_is : d ≡ framing n ls
-  pub received_past : length h.received ≡ length past
-  pub edge : Edge m.sender (λ i. get_or h.given i 0) (length h.given) q e
-  pub clocks : length h.given ≡ e + suc n
+  pub received_past : length received ≡ length past
+  pub edge : Edge m.sender (λ i. get_or given i 0) (length given) q e
+  pub clocks : length given ≡ e + suc n
   pub unended : n < last_sample m.receiver
   pub amount : length ls ≡ falling_before (suc n) m.receiver.samples
-  pub taken : Taken ls (through m.receiver.format (get_or h.accepted (length past) 0))
+  pub taken : Taken ls (through m.receiver.format c)
 
-abbrev pub Ear : LinkState → Level → Doing → History → List ℕ → ℕ → Type 0
-Ear m p d h past q = Over m p d h past q ⊎ (Due p d h past q ⊎ Inside m d h past q)
+abbrev pub Ear : LinkState → Level → Doing → History → ℕ → List ℕ → ℕ → Type 0
+Ear m p d h c past q = Over m p d h.received h.sends past q ⊎ (Due p d h.received h.given past q ⊎ Inside m d h.received h.given c past q)
+
+-- the character of the frame that begins after so many
+abbrev pub character : History → List ℕ → ℕ
+character h past = get_or h.accepted (length past) 0
+
+-- that frame, and what the receiver has to do with it
+abbrev pub Framed : LinkState → List Level → Level → Doing → Level → History → ℕ → List ℕ → ℕ → ℕ → Type 0
+Framed m lf p d l h c past q j = Amid m lf l h.begun h.sends c past q j × Ear m p d h c past q
 
 abbrev pub Phase : LinkState → List Level → Level → Doing → Level → History → Type 0
-Phase m lf p d l h = Fresh lf p d l h ⊎ ((past : List ℕ) × (q : ℕ) × (j : ℕ) × Amid m lf l h past q j × Ear m p d h past q)
+Phase m lf p d l h = Fresh lf p d l h.begun h.received ⊎ ((past : List ℕ) × (q : ℕ) × (j : ℕ) × Framed m lf p d l h (character h past) past q j)
 
 abbrev pub Inv : LinkState → List Level → List ℕ → List Entry → Level → Doing → Level → History → Type 0
 Inv m lf w us p d l h = Always m w us h × Phase m lf p d l h

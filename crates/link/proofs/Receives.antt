@@ -18,42 +18,22 @@ use Rattle.ends.proofs.Sampling.{before_zero, Taken, sound_rising}
 use Rattle.link.proofs.Reach.{heard_fixed}
 use Rattle.link.proofs.Kept.{kept_arrival}
 use Rattle.link.proofs.Clock.{level_held, level_stopped, clock_goes_on, clock_ends}
-use Rattle.link.proofs.Invariant.{Always, Fresh, Amid, Over, Due, Inside, Ear, Phase, Inv}
+use Rattle.link.proofs.Invariant.{Always, Fresh, Amid, Over, Due, Inside, Ear, character, Phase, Inv}
 
 -- a history with one more receive clock, of which this was heard
 abbrev pub clocked : ReceiverState → Heard → History → History
-clocked r H h = record {
+clocked r H h = record h {
   given = h.given ++ (h.sends ∷ []);
   received = h.received ++ characters H.arrived;
   unread = numbered r.capacity h.unread H.arrived (length h.received);
-  accepted = h.accepted;
-  sends = h.sends;
-  begun = h.begun;
-  reads = h.reads;
 }
 
 -- and no character
 abbrev pub ticked : History → History
-ticked h = record {
-  given = h.given ++ (h.sends ∷ []);
-  received = h.received;
-  unread = h.unread;
-  accepted = h.accepted;
-  sends = h.sends;
-  begun = h.begun;
-  reads = h.reads;
-}
+ticked h = record h { given = h.given ++ (h.sends ∷ []) }
 
 ticked_is : (r : ReceiverState) (d : Doing) (h : History) → clocked r (nothing d) h ≡ ticked h
-ticked_is r d h = ap (λ (x : List ℕ). record {
-  given = h.given ++ (h.sends ∷ []);
-  received = x;
-  unread = h.unread;
-  accepted = h.accepted;
-  sends = h.sends;
-  begun = h.begun;
-  reads = h.reads;
-}) (append-nil h.received)
+ticked_is r d h = ap (λ (x : List ℕ). record h { given = h.given ++ (h.sends ∷ []); received = x }) (append-nil h.received)
 
 timely_push : (given : List ℕ) (sends : ℕ) → ((i : ℕ) → i < length given → get_or given i 0 ≤ sends)
     → (i : ℕ) → i < length (given ++ (sends ∷ [])) → get_or (given ++ (sends ∷ [])) i 0 ≤ sends
@@ -108,11 +88,11 @@ module _ (m : LinkState) (oks : SoundSender m.sender) (okr : SoundReceiver m.rec
   heard_inside p d l n ls e = ap (λ (y : Doing). heard m.receiver p y l) e
 
   module _ (lf : List Level) (w : List ℕ) (us : List Entry) (p : Level) (d : Doing) (l : Level) (h : History) (a : Always m w us h) where
-    on_fresh : Fresh lf p d l h → After lf w us l (heard m.receiver p d l) h
+    on_fresh : Fresh lf p d l h.begun h.received → After lf w us l (heard m.receiver p d l) h
     on_fresh f = quietly lf w us p d l h idle (heard_waiting p d l f.previous_is f.doing_is f.line_is)
         (tick_always w us h a, inl (record { begun_is = f.begun_is; left_is = f.left_is; line_is = f.line_is; doing_is = refl; previous_is = f.line_is; received_none = f.received_none }))
 
-    module _ (past : List ℕ) (q j : ℕ) (am : Amid m lf l h past q j)
+    module _ (past : List ℕ) (q j : ℕ) (am : Amid m lf l h.begun h.sends (character h past) past q j)
         (ok : SampledFrame m.sender m.receiver (λ i. get_or (h.given ++ (h.sends ∷ [])) i 0) h.sends (length (h.given ++ (h.sends ∷ []))) q) where
       size : length h.begun ≡ suc (length past)
       size = omega (arith, ap length am.begun_is, length_push past q)
@@ -120,24 +100,21 @@ module _ (m : LinkState) (oks : SoundSender m.sender) (okr : SoundReceiver m.rec
       agree : Agree m.sender.format m.receiver.format
       agree = a.agrees (omega (arith, size, a.order))
 
-      amid : Amid m lf l (ticked h) past q j
-      amid = record { begun_is = am.begun_is; at = am.at; left_is = am.left_is; line_is = am.line_is }
-
-      on_over : Over m p d h past q → After lf w us l (heard m.receiver p d l) h
+      on_over : Over m p d h.received h.sends past q → After lf w us l (heard m.receiver p d l) h
       on_over x =
-          let mark : l ≡ Mark = am.line_is ∙ level_stopped m.sender oks (get_or h.accepted (length past) 0) j (omega (arith, x.stopped, am.at)) in
+          let mark : l ≡ Mark = am.line_is ∙ level_stopped m.sender oks (character h past) j (omega (arith, x.stopped, am.at)) in
           quietly lf w us p d l h idle (heard_waiting p d l x.previous_is x.doing_is mark)
-          (tick_always w us h a, inr (past, q, j, amid, inl (record { doing_is = refl; previous_is = mark; received_all = x.received_all; stopped = x.stopped })))
+          (tick_always w us h a, inr (past, q, j, (am, inl (record { doing_is = refl; previous_is = mark; received_all = x.received_all; stopped = x.stopped }))))
 
       -- the clock is clock n of the frame, whose edge was clock e
       module _ (n e : ℕ) (ls : List Level) (is : heard m.receiver p d l ≡ heard_in_frame m.receiver.format n (taken_now m.receiver.samples n ls l))
           (edge : Edge m.sender (λ i. get_or (h.given ++ (h.sends ∷ [])) i 0) (length (h.given ++ (h.sends ∷ []))) q e)
           (clocks : length h.given ≡ e + n)
-          (taken : Taken ls (through m.receiver.format (get_or h.accepted (length past) 0))) (amount : length ls ≡ falling_before n m.receiver.samples)
+          (taken : Taken ls (through m.receiver.format (character h past))) (amount : length ls ≡ falling_before n m.receiver.samples)
           (received_past : length h.received ≡ length past) where
         on_goes : n < last_sample m.receiver → After lf w us l (heard m.receiver p d l) h
         on_goes more =
-            let x = clock_goes_on m.sender oks m.receiver okr agree h.given h.sends q e n a.timely ok edge clocks j (get_or h.accepted (length past) 0) l
+            let x = clock_goes_on m.sender oks m.receiver okr agree h.given h.sends q e n a.timely ok edge clocks j (character h past) l
             am.at am.line_is ls taken amount more in
             quietly lf w us p d l h (framing n (taken_now m.receiver.samples n ls l)) (is ∙ x.0) (
               tick_always w us h a,
@@ -145,25 +122,27 @@ module _ (m : LinkState) (oks : SoundSender m.sender) (okr : SoundReceiver m.rec
                 past,
                 q,
                 j,
-                amid,
-                inr (inr (record {
-                  n = n;
-                  ls = taken_now m.receiver.samples n ls l;
-                  e = e;
-                  doing_is = refl;
-                  received_past = received_past;
-                  edge = edge;
-                  clocks = omega (arith, clocks, length_push h.given h.sends);
-                  unended = more;
-                  amount = x.2;
-                  taken = x.1;
-                })),
+                (
+                  am,
+                  inr (inr (record {
+                    n = n;
+                    ls = taken_now m.receiver.samples n ls l;
+                    e = e;
+                    doing_is = refl;
+                    received_past = received_past;
+                    edge = edge;
+                    clocks = omega (arith, clocks, length_push h.given h.sends);
+                    unended = more;
+                    amount = x.2;
+                    taken = x.1;
+                  })),
+                ),
               ),
             )
 
         on_ends : n ≡ last_sample m.receiver → After lf w us l (heard m.receiver p d l) h
         on_ends last =
-            let c : ℕ = get_or h.accepted (length past) 0 in
+            let c : ℕ = character h past in
             let there : length past < length h.accepted = omega (arith, size, a.order) in
             let x = clock_ends m.sender oks m.receiver okr agree h.given h.sends q e n a.timely ok edge clocks j c l
             am.at am.line_is ls taken amount last (a.narrow (length past) there) in
@@ -188,8 +167,7 @@ module _ (m : LinkState) (oks : SoundSender m.sender) (okr : SoundReceiver m.rec
                 past,
                 q,
                 j,
-                record { begun_is = am.begun_is; at = am.at; left_is = am.left_is; line_is = am.line_is },
-                inl (record { doing_is = refl; previous_is = x.1; received_all = omega (arith, more, received_past); stopped = x.2 }),
+                (am, inl (record { doing_is = refl; previous_is = x.1; received_all = omega (arith, more, received_past); stopped = x.2 })),
               ),
             )
 
@@ -197,13 +175,13 @@ module _ (m : LinkState) (oks : SoundSender m.sender) (okr : SoundReceiver m.rec
         on_clock most = ⊎_elim (λ (z : n < last_sample m.receiver). on_goes z) (λ (z : last_sample m.receiver ≤ n). on_ends (omega (arith, z, most)))
             (cases_lt n (last_sample m.receiver))
 
-      on_inside : Inside m d h past q → After lf w us l (heard m.receiver p d l) h
+      on_inside : Inside m d h.received h.given (character h past) past q → After lf w us l (heard m.receiver p d l) h
       on_inside x = on_clock (x.n + 1) x.e x.ls (heard_inside p d l x.n x.ls x.doing_is)
           (edge_more m.sender h.given h.sends q x.e x.edge) (omega (arith, x.clocks)) x.taken
           (x.amount ∙ ap (λ (k : ℕ). falling_before k m.receiver.samples) (omega arith)) x.received_past (omega (arith, x.unended))
 
       -- the first receive clock of a frame comes while its start bit is held
-      on_due : Due p d h past q → After lf w us l (heard m.receiver p d l) h
+      on_due : Due p d h.received h.given past q → After lf w us l (heard m.receiver p d l) h
       on_due x =
           let e : ℕ = length h.given in
           let newest : get_or (h.given ++ (h.sends ∷ [])) e 0 ≡ h.sends = get_or_push h.given h.sends 0 e refl in
@@ -223,7 +201,7 @@ module _ (m : LinkState) (oks : SoundSender m.sender) (okr : SoundReceiver m.rec
                 (cases_lt (q + start_of m.sender.lengths 1) h.sends);
           } in
           let space : l ≡ Space = am.line_is
-          ∙ level_held m.sender oks (get_or h.accepted (length past) 0) 0 j (omega arith) (omega (arith, held.entered, am.at)) (omega (arith, held.not_left, am.at)) in
+          ∙ level_held m.sender oks (character h past) 0 j (omega arith) (omega (arith, held.entered, am.at)) (omega (arith, held.not_left, am.at)) in
           let edge : Edge m.sender (λ i. get_or (h.given ++ (h.sends ∷ [])) i 0) (length (h.given ++ (h.sends ∷ []))) q e = record {
             within = omega (arith, longer);
             holds = subst (λ (k : ℕ). Holds m.sender q 0 k) (sym newest) held;
@@ -232,12 +210,12 @@ module _ (m : LinkState) (oks : SoundSender m.sender) (okr : SoundReceiver m.rec
           on_clock 0 e [] (heard_edge p d l x.previous_is x.doing_is space) edge (omega arith) (λ k i three z. absurd (not-suc-le-zero z)) (sym (before_zero m.receiver.samples)) x.received_past
           (omega (arith, last_positive m.receiver okr))
 
-      on_ear : Ear m p d h past q → After lf w us l (heard m.receiver p d l) h
+      on_ear : Ear m p d h (character h past) past q → After lf w us l (heard m.receiver p d l) h
       on_ear (inl x) = on_over x
       on_ear (inr (inl x)) = on_due x
       on_ear (inr (inr x)) = on_inside x
 
-    sampled_clock : Sampled m (noted_clock (with m.receiver us p d) l h) → (past : List ℕ) (q j : ℕ) → Amid m lf l h past q j
+    sampled_clock : Sampled m (noted_clock (with m.receiver us p d) l h) → (past : List ℕ) (q j : ℕ) → Amid m lf l h.begun h.sends (character h past) past q j
         → SampledFrame m.sender m.receiver (λ i. get_or (h.given ++ (h.sends ∷ [])) i 0) h.sends (length (h.given ++ (h.sends ∷ []))) q
     sampled_clock ok past q j am =
         subst (λ (x : ℕ). SampledFrame m.sender m.receiver (λ i. get_or (h.given ++ (h.sends ∷ [])) i 0) h.sends (length (h.given ++ (h.sends ∷ []))) x)
@@ -246,7 +224,7 @@ module _ (m : LinkState) (oks : SoundSender m.sender) (okr : SoundReceiver m.rec
 
     on_phase : Sampled m (noted_clock (with m.receiver us p d) l h) → Phase m lf p d l h → After lf w us l (heard m.receiver p d l) h
     on_phase ok (inl f) = on_fresh f
-    on_phase ok (inr (past, q, j, am, ear)) = on_ear past q j am (sampled_clock ok past q j am) ear
+    on_phase ok (inr (past, q, j, (am, ear))) = on_ear past q j am (sampled_clock ok past q j am) ear
 
   pub receive_keeps : (lf : List Level) (w : List ℕ) (us : List Entry) (p : Level) (d : Doing) (l : Level) (h : History)
       → Inv m lf w us p d l h → Sampled m (noted_clock (with m.receiver us p d) l h)

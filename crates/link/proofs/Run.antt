@@ -22,7 +22,7 @@ use Rattle.link.proofs.Answered.{all_noted}
 use Rattle.link.proofs.Grows.{grows, sampled_back}
 use Rattle.link.proofs.Reach.{link, quiet_rests}
 use Rattle.link.proofs.Kept.{none, pairs, Numbered, numbered_init, numbered_at, flag_missing, missing_flag, reads_rise}
-use Rattle.link.proofs.Invariant.{Always, Ear, Inv}
+use Rattle.link.proofs.Invariant.{Always, Ear, character, Inv}
 use Rattle.link.proofs.Steps.{sampled_last, not_due, not_inside, send_on, send_begins, load_keeps, read_keeps}
 use Rattle.link.proofs.Receives.{receive_keeps}
 
@@ -37,7 +37,7 @@ module _ (m : LinkState) (oks : SoundSender m.sender) (okr : SoundReceiver m.rec
   complete : (lf : List Level) (w : List ℕ) (us : List Entry) (p : Level) (d : Doing) (l : Level) (h : History) → Inv m lf w us p d l h → Sampled m h
       → (i : ℕ) → i < length h.begun → get_or h.begun i 0 + start_of m.sender.lengths (first_stop m.sender.format + 1) < h.sends → i < length h.received
   complete lf w us p d l h (a, inl f) ok i z y = absurd (omega (arith, z, ap length f.begun_is))
-  complete lf w us p d l h (a, inr (past, q, j, am, ear)) ok i z y = go ear
+  complete lf w us p d l h (a, inr (past, q, j, (am, ear))) ok i z y = go ear
     where
       size : length h.begun ≡ suc (length past)
       size = omega (arith, ap length am.begun_is, length_push past q)
@@ -52,10 +52,10 @@ module _ (m : LinkState) (oks : SoundSender m.sender) (okr : SoundReceiver m.rec
       by : length h.received ≡ length past → (i ≡ length past → ⊥) → i < length h.received
       by e no_last = ⊎_elim (λ (x : i < length past). omega (arith, x, e)) (λ (x : length past ≤ i). absurd (no_last (omega (arith, x, z, size)))) (cases_lt i (length past))
 
-      go : Ear m p d h past q → i < length h.received
+      go : Ear m p d h (character h past) past q → i < length h.received
       go (inl x) = omega (arith, z, size, x.received_all)
       go (inr (inl x)) = by x.received_past (λ e. not_due m oks okr p d h past q h.sends good (at_last e) x)
-      go (inr (inr x)) = by x.received_past (λ e. not_inside m oks okr d h past q h.sends (a.agrees (omega (arith, size, a.order))) good (at_last e) x)
+      go (inr (inr x)) = by x.received_past (λ e. not_inside m oks okr d h (character h past) past q h.sends (a.agrees (omega (arith, size, a.order))) good (at_last e) x)
 
   delivered : (lf : List Level) (w : List ℕ) (us : List Entry) (p : Level) (d : Doing) (l : Level) (h : History) → Inv m lf w us p d l h → Sampled m h → Delivered m h
   delivered lf w us p d l h i ok =

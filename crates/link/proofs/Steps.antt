@@ -14,13 +14,12 @@ use Rattle.link.specs.Link.{LinkState}
 use Rattle.link.specs.History.{History, noted_load, noted_send, noted_read}
 use Rattle.link.specs.Sampling.{SampledFrame}
 use Rattle.link.specs.Delivery.{Sampled}
-use Rattle.line.proofs.Bits.{through, agree_first_stop}
+use Rattle.line.proofs.Bits.{agree_first_stop}
 use Rattle.ends.proofs.Held.{sum_mono}
-use Rattle.ends.proofs.Sampling.{Taken}
 use Rattle.link.proofs.Left.{first_drop, rest_drop, nothing_left}
 use Rattle.link.proofs.Kept.{Kept, kept_read}
 use Rattle.link.proofs.Clock.{lasts}
-use Rattle.link.proofs.Invariant.{Always, Amid, Due, Inside, Ear, Phase, Inv}
+use Rattle.link.proofs.Invariant.{Always, Amid, Due, Inside, Ear, character, Framed, Phase, Inv}
 
 module _ (m : LinkState) (oks : SoundSender m.sender) (okr : SoundReceiver m.receiver) where
   pub sampled_last : (h : History) (past : List ℕ) (q : ℕ) → h.begun ≡ past ++ (q ∷ []) → Sampled m h
@@ -33,17 +32,17 @@ module _ (m : LinkState) (oks : SoundSender m.sender) (okr : SoundReceiver m.rec
   -- a frame whose first stop bit has ended has been received
   pub not_due : (p : Level) (d : Doing) (h : History) (past : List ℕ) (q sends : ℕ)
       → SampledFrame m.sender m.receiver (λ i. get_or h.given i 0) sends (length h.given) q
-      → q + start_of m.sender.lengths (first_stop m.sender.format + 1) < sends → Due p d h past q → ⊥
+      → q + start_of m.sender.lengths (first_stop m.sender.format + 1) < sends → Due p d h.received h.given past q → ⊥
   not_due p d h past q sends ok over due =
       let k : sum (take 1 m.sender.lengths) ≤ sum (take (first_stop m.sender.format + 1) m.sender.lengths) =
       sum_mono 1 (first_stop m.sender.format + 1) m.sender.lengths (omega arith) in
       let f = ok.has_edge (omega (arith, over, k)) in
       omega (arith, due.before f.0 f.1.within, f.1.holds.entered)
 
-  pub not_inside : (d : Doing) (h : History) (past : List ℕ) (q sends : ℕ) → Agree m.sender.format m.receiver.format
+  pub not_inside : (d : Doing) (h : History) (c : ℕ) (past : List ℕ) (q sends : ℕ) → Agree m.sender.format m.receiver.format
       → SampledFrame m.sender m.receiver (λ i. get_or h.given i 0) sends (length h.given) q
-      → q + start_of m.sender.lengths (first_stop m.sender.format + 1) < sends → Inside m d h past q → ⊥
-  not_inside d h past q sends agree ok over x =
+      → q + start_of m.sender.lengths (first_stop m.sender.format + 1) < sends → Inside m d h.received h.given c past q → ⊥
+  not_inside d h c past q sends agree ok over x =
       let f = ok.not_late x.e (first_stop m.receiver.format) x.edge (omega arith)
       (subst (λ (k : ℕ). q + start_of m.sender.lengths (k + 1) < sends) (agree_first_stop m.sender.format m.receiver.format agree) over) in
       omega (arith, f.0, x.clocks, x.unended)
@@ -63,10 +62,10 @@ module _ (m : LinkState) (oks : SoundSender m.sender) (okr : SoundReceiver m.rec
   }
 
   -- one more send clock of the same frame
-  send_amid : (lf : List Level) (l : Level) (h : History) (past : List ℕ) (q j : ℕ) → Amid m lf l h past q j
-      → Amid m (rest_of lf) (first_of lf) (noted_send false h) past q (suc j)
-  send_amid lf l h past q j a =
-      let fl : List Level = frame_levels m.sender (get_or h.accepted (length past) 0) in
+  send_amid : (lf : List Level) (l : Level) (begun : List ℕ) (sends c : ℕ) (past : List ℕ) (q j : ℕ) → Amid m lf l begun sends c past q j
+      → Amid m (rest_of lf) (first_of lf) begun (sends + 1) c past q (suc j)
+  send_amid lf l begun sends c past q j a =
+      let fl : List Level = frame_levels m.sender c in
       record {
         begun_is = a.begun_is;
         at = omega (arith, a.at);
@@ -74,21 +73,9 @@ module _ (m : LinkState) (oks : SoundSender m.sender) (okr : SoundReceiver m.rec
         line_is = ap (λ (x : List Level). first_of x) a.left_is ∙ first_drop (suc j) fl;
       }
 
-  send_ear : (p : Level) (d : Doing) (h : History) (past : List ℕ) (q : ℕ) → Ear m p d h past q → Ear m p d (noted_send false h) past q
-  send_ear p d h past q (inl x) = inl (record { doing_is = x.doing_is; previous_is = x.previous_is; received_all = x.received_all; stopped = omega (arith, x.stopped) })
-  send_ear p d h past q (inr (inl x)) = inr (inl (record { doing_is = x.doing_is; previous_is = x.previous_is; received_past = x.received_past; before = x.before }))
-  send_ear p d h past q (inr (inr x)) = inr (inr (record {
-    n = x.n;
-    ls = x.ls;
-    e = x.e;
-    doing_is = x.doing_is;
-    received_past = x.received_past;
-    edge = x.edge;
-    clocks = x.clocks;
-    unended = x.unended;
-    amount = x.amount;
-    taken = x.taken;
-  }))
+  send_ear : (p : Level) (d : Doing) (h : History) (c : ℕ) (past : List ℕ) (q : ℕ) → Ear m p d h c past q → Ear m p d (noted_send false h) c past q
+  send_ear p d h c past q (inl x) = inl (record { doing_is = x.doing_is; previous_is = x.previous_is; received_all = x.received_all; stopped = omega (arith, x.stopped) })
+  send_ear p d h c past q (inr x) = inr x
 
   pub send_on : (lf : List Level) (w : List ℕ) (us : List Entry) (p : Level) (d : Doing) (l : Level) (h : History) → Inv m lf w us p d l h
       → Inv m (rest_of lf) w us p d (first_of lf) (noted_send false h)
@@ -103,17 +90,18 @@ module _ (m : LinkState) (oks : SoundSender m.sender) (okr : SoundReceiver m.rec
       received_none = f.received_none;
     }),
   )
-  send_on lf w us p d l h (a, inr (past, q, j, am, ear)) =
-      (send_always false w us h a w a.waits a.order, inr (past, q, suc j, send_amid lf l h past q j am, send_ear p d h past q ear))
+  send_on lf w us p d l h (a, inr (past, q, j, (am, ear))) =
+      let c : ℕ = character h past in
+      (send_always false w us h a w a.waits a.order, inr (past, q, suc j, (send_amid lf l h.begun h.sends c past q j am, send_ear p d h c past q ear)))
 
   -- nothing is left of the last frame, and one more send clock comes: all was received
   all_received : (w : List ℕ) (us : List Entry) (p : Level) (d : Doing) (l : Level) (h : History) → Inv m [] w us p d l h → Sampled m (noted_send true h)
       → (d ≡ idle) × (p ≡ Mark) × (length h.received ≡ length h.begun)
   all_received w us p d l h (a, inl f) ok = (f.doing_is, f.previous_is, f.received_none ∙ sym (ap length f.begun_is))
-  all_received w us p d l h (a, inr (past, q, j, am, ear)) ok = go ear
+  all_received w us p d l h (a, inr (past, q, j, (am, ear))) ok = go ear
     where
       fl : List Level
-      fl = frame_levels m.sender (get_or h.accepted (length past) 0)
+      fl = frame_levels m.sender (character h past)
 
       size : length h.begun ≡ suc (length past)
       size = omega (arith, ap length am.begun_is, length_push past q)
@@ -126,12 +114,12 @@ module _ (m : LinkState) (oks : SoundSender m.sender) (okr : SoundReceiver m.rec
           (ok (length past) (omega (arith, size, length_push h.begun h.sends)))
 
       over : q + start_of m.sender.lengths (first_stop m.sender.format + 1) < h.sends + 1
-      over = omega (arith, am.at, nothing_left (suc j) fl (sym am.left_is), lasts m.sender oks (get_or h.accepted (length past) 0))
+      over = omega (arith, am.at, nothing_left (suc j) fl (sym am.left_is), lasts m.sender oks (character h past))
 
-      go : Ear m p d h past q → (d ≡ idle) × (p ≡ Mark) × (length h.received ≡ length h.begun)
+      go : Ear m p d h (character h past) past q → (d ≡ idle) × (p ≡ Mark) × (length h.received ≡ length h.begun)
       go (inl x) = (x.doing_is, x.previous_is, x.received_all ∙ sym size)
       go (inr (inl x)) = absurd (not_due p d h past q (h.sends + 1) frame_ok over x)
-      go (inr (inr x)) = absurd (not_inside d h past q (h.sends + 1) (a.agrees (omega (arith, size, a.order))) frame_ok over x)
+      go (inr (inr x)) = absurd (not_inside d h (character h past) past q (h.sends + 1) (a.agrees (omega (arith, size, a.order))) frame_ok over x)
 
   pub send_begins : (w : List ℕ) (c : ℕ) (us : List Entry) (p : Level) (d : Doing) (l : Level) (h : History) → Inv m [] (c ∷ w) us p d l h
       → Sampled m (noted_send true h)
@@ -152,19 +140,21 @@ module _ (m : LinkState) (oks : SoundSender m.sender) (okr : SoundReceiver m.rec
           h.begun,
           h.sends,
           0,
-          record {
-            begun_is = refl;
-            at = omega arith;
-            left_is = ap (λ (x : List Level). rest_of x) fl_is ∙ rest_drop 0 (frame_levels m.sender (get_or h.accepted n 0));
-            line_is = ap (λ (x : List Level). first_of x) fl_is ∙ first_drop 0 (frame_levels m.sender (get_or h.accepted n 0));
-          },
-          inr (inl (record { doing_is = all.0; previous_is = all.1; received_past = all.2; before = a.timely })),
+          (
+            record {
+              begun_is = refl;
+              at = omega arith;
+              left_is = ap (λ (x : List Level). rest_of x) fl_is ∙ rest_drop 0 (frame_levels m.sender (get_or h.accepted n 0));
+              line_is = ap (λ (x : List Level). first_of x) fl_is ∙ first_drop 0 (frame_levels m.sender (get_or h.accepted n 0));
+            },
+            inr (inl (record { doing_is = all.0; previous_is = all.1; received_past = all.2; before = a.timely })),
+          ),
         ),
       )
 
   -- loads
   still_accepted : (w : List ℕ) (us : List Entry) (h : History) (past : List ℕ) (q c : ℕ) → Always m w us h → h.begun ≡ past ++ (q ∷ [])
-      → get_or h.accepted (length past) 0 ≡ get_or (h.accepted ++ (c ∷ [])) (length past) 0
+      → character h past ≡ character (noted_load true c h) past
   still_accepted w us h past q c a e =
       sym (get_or_append_left h.accepted (c ∷ []) 0 (length past) (omega (arith, a.order, ap length e, length_push past q)))
 
@@ -187,53 +177,13 @@ module _ (m : LinkState) (oks : SoundSender m.sender) (okr : SoundReceiver m.rec
     kept = a.kept;
   }
 
-  load_ear : (p : Level) (d : Doing) (h : History) (past : List ℕ) (q c : ℕ) → get_or h.accepted (length past) 0 ≡ get_or (h.accepted ++ (c ∷ [])) (length past) 0
-      → Ear m p d h past q → Ear m p d (noted_load true c h) past q
-  load_ear p d h past q c e (inl x) = inl (record { doing_is = x.doing_is; previous_is = x.previous_is; received_all = x.received_all; stopped = x.stopped })
-  load_ear p d h past q c e (inr (inl x)) = inr (inl (record { doing_is = x.doing_is; previous_is = x.previous_is; received_past = x.received_past; before = x.before }))
-  load_ear p d h past q c e (inr (inr x)) = inr (inr (record {
-    n = x.n;
-    ls = x.ls;
-    e = x.e;
-    doing_is = x.doing_is;
-    received_past = x.received_past;
-    edge = x.edge;
-    clocks = x.clocks;
-    unended = x.unended;
-    amount = x.amount;
-    taken = subst (λ (k : ℕ). Taken x.ls (through m.receiver.format k)) e x.taken;
-  }))
-
   pub load_keeps : (lf : List Level) (w : List ℕ) (us : List Entry) (p : Level) (d : Doing) (l : Level) (h : History) (c : ℕ)
       → c < 2 ^ width m.sender.format → Agree m.sender.format m.receiver.format
       → Inv m lf w us p d l h → Inv m lf (w ++ (c ∷ [])) us p d l (noted_load true c h)
-  load_keeps lf w us p d l h c fits agree (a, inl f) = (
-    load_always w us h c fits agree a,
-    inl (record {
-      begun_is = f.begun_is;
-      left_is = f.left_is;
-      line_is = f.line_is;
-      doing_is = f.doing_is;
-      previous_is = f.previous_is;
-      received_none = f.received_none;
-    }),
-  )
-  load_keeps lf w us p d l h c fits agree (a, inr (past, q, j, am, ear)) =
-      let e : get_or h.accepted (length past) 0 ≡ get_or (h.accepted ++ (c ∷ [])) (length past) 0 = still_accepted w us h past q c a am.begun_is in (
-        load_always w us h c fits agree a,
-        inr (
-          past,
-          q,
-          j,
-          record {
-            begun_is = am.begun_is;
-            at = am.at;
-            left_is = am.left_is ∙ ap (λ (x : ℕ). drop (suc j) (frame_levels m.sender x)) e;
-            line_is = am.line_is ∙ ap (λ (x : ℕ). get_or (frame_levels m.sender x) j Mark) e;
-          },
-          load_ear p d h past q c e ear,
-        ),
-      )
+  load_keeps lf w us p d l h c fits agree (a, inl f) = (load_always w us h c fits agree a, inl f)
+  load_keeps lf w us p d l h c fits agree (a, inr (past, q, j, f)) =
+      let e : character h past ≡ character (noted_load true c h) past = still_accepted w us h past q c a f.0.begun_is in
+      (load_always w us h c fits agree a, inr (past, q, j, subst (λ (x : ℕ). Framed m lf p d l h x past q j) e f))
 
   -- reads
   read_some : (w : List ℕ) (es : List Entry) (e : Entry) (h : History) (x : List ℕ) → h.unread ≡ x → Always m w (e ∷ es) h → Always m w es (noted_read x (e ∷ es) h)
@@ -251,46 +201,7 @@ module _ (m : LinkState) (oks : SoundSender m.sender) (okr : SoundReceiver m.rec
   read_phase : (lf : List Level) (p : Level) (d : Doing) (l : Level) (h : History) (x : List ℕ) (es : List Entry) → Phase m lf p d l h → Phase m lf p d l (noted_read x es h)
   read_phase lf p d l h [] es ph = ph
   read_phase lf p d l h (u ∷ x) [] ph = ph
-  read_phase lf p d l h (u ∷ x) (e ∷ es) (inl f) = inl (record {
-    begun_is = f.begun_is;
-    left_is = f.left_is;
-    line_is = f.line_is;
-    doing_is = f.doing_is;
-    previous_is = f.previous_is;
-    received_none = f.received_none;
-  })
-  read_phase lf p d l h (u ∷ x) (e ∷ es) (inr (past, q, j, am, inl y)) = inr (
-    past,
-    q,
-    j,
-    record { begun_is = am.begun_is; at = am.at; left_is = am.left_is; line_is = am.line_is },
-    inl (record { doing_is = y.doing_is; previous_is = y.previous_is; received_all = y.received_all; stopped = y.stopped }),
-  )
-  read_phase lf p d l h (u ∷ x) (e ∷ es) (inr (past, q, j, am, inr (inl y))) = inr (
-    past,
-    q,
-    j,
-    record { begun_is = am.begun_is; at = am.at; left_is = am.left_is; line_is = am.line_is },
-    inr (inl (record { doing_is = y.doing_is; previous_is = y.previous_is; received_past = y.received_past; before = y.before })),
-  )
-  read_phase lf p d l h (u ∷ x) (e ∷ es) (inr (past, q, j, am, inr (inr y))) = inr (
-    past,
-    q,
-    j,
-    record { begun_is = am.begun_is; at = am.at; left_is = am.left_is; line_is = am.line_is },
-    inr (inr (record {
-      n = y.n;
-      ls = y.ls;
-      e = y.e;
-      doing_is = y.doing_is;
-      received_past = y.received_past;
-      edge = y.edge;
-      clocks = y.clocks;
-      unended = y.unended;
-      amount = y.amount;
-      taken = y.taken;
-    })),
-  )
+  read_phase lf p d l h (u ∷ x) (e ∷ es) ph = ph
 
   pub read_keeps : (lf : List Level) (w : List ℕ) (us : List Entry) (p : Level) (d : Doing) (l : Level) (h : History)
       → Inv m lf w us p d l h → Inv m lf w (without_oldest us) p d l (noted_read h.unread us h)
