@@ -1,6 +1,7 @@
 -- One act more of a run.
 use Rattle.std.proofs.Common.{◌≡◌, ℕ, suc, ◌+◌, ◌<◌, ◌≤◌, List, [], ◌∷◌, ◌++◌, length, get_or, take, drop, set, Ok, Err, Result, sym, refl, ap, ◌∙◌, arith}
 use Rattle.std.proofs.lemmas.List.{append_assoc, take_more, drop_more, length-take-le, set_at, take_all}
+use Rattle.std.proofs.lemmas.List.Sums.{fold_push}
 use Rattle.line.specs.declared.refusal.Refusal.{Refusal}
 use Rattle.ends.specs.Receiver.{Entry, oldest}
 use Rattle.link.specs.declared.act.Act.{Act}
@@ -13,10 +14,6 @@ use Rattle.link.specs.Acts.{answer, all_answers, load_told, read_told, told}
 abbrev pub Outcome : Type 0
 Outcome = Result Answer Refusal
 
-after_push : (m : LinkState) (xs : List Act) (a : Act) → after m (xs ++ a ∷ []) ≡ after_act (after m xs) a
-after_push m [] a = refl
-after_push m (x ∷ xs) a = after_push (after_act m x) xs a
-
 answers_push : (m : LinkState) (xs : List Act) (a : Act) → all_answers m (xs ++ a ∷ []) ≡ all_answers m xs ++ answer (after m xs) a ∷ []
 answers_push m [] a = refl
 answers_push m (x ∷ xs) a = ap {B = List Outcome} (λ t. answer m x ∷ t) (answers_push (after_act m x) xs a)
@@ -28,7 +25,7 @@ answers_length m (x ∷ xs) = ap suc (answers_length (after_act m x) xs)
 module _ (m : LinkState) (acts : List Act) (i : ℕ) where
   pub state_more : (u v : LinkState) (d : Act) → i < length acts → u ≡ after m (take i acts) → v ≡ after_act u (get_or acts i d) → v ≡ after m (take (i + 1) acts)
   state_more u v d within inv e =
-      e ∙ ap (λ x. after_act x (get_or acts i d)) inv ∙ sym (ap (after m) (take_more acts i d within) ∙ after_push m (take i acts) (get_or acts i d))
+      e ∙ ap (λ x. after_act x (get_or acts i d)) inv ∙ sym (ap (after m) (take_more acts i d within) ∙ fold_push after_act m (take i acts) (get_or acts i d))
 
   pub answers_more : (u : LinkState) (d : Act) (old was : List Outcome) (r : Outcome) → i < length acts → i < length old → u ≡ after m (take i acts)
       → r ≡ answer u (get_or acts i d) → was ≡ all_answers m (take i acts) ++ drop i old → set was i r ≡ all_answers m (take (i + 1) acts) ++ drop (i + 1) old

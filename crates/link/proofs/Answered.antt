@@ -1,13 +1,13 @@
 -- No read goes unnoted: a history has the entries that the reads answered.
 use Rattle.std.proofs.Common.{◌≡◌, ℕ, suc, pred, ◌+◌, Bool, true, false, cond, leb, List, [], ◌∷◌, ◌++◌, length, take, sym, refl, ap, ◌∙◌, append_assoc, append-nil, arith}
 use lib.Bits.{bit_or}
-use Rattle.std.proofs.lemmas.List.{length_push, length-take-le}
+use Rattle.std.proofs.lemmas.List.{length_push, length-take-le, map-append}
 use Rattle.std.proofs.lemmas.Bool.Decides.{nat_tests}
 use Rattle.ends.specs.Receiver.{Entry, joined, hears, arrive, without_oldest}
 use Rattle.link.specs.declared.act.Act.{Act}
 use Rattle.link.specs.declared.act.Act.TheVariants.{Load, Send, Receive, Noise, Read}
 use Rattle.link.specs.Link.{LinkState, after_act}
-use Rattle.link.specs.History.{History, blank, numbered, noted, noted_read, history_from, history, answered, read_answers, entries_of, noted_entries}
+use Rattle.link.specs.History.{History, blank, numbered, noted, noted_read, history_from, history, answered, read_answers, noted_entries}
 
 abbrev grown : Bool → ℕ → ℕ
 grown full n = cond full (pred n) n + 1
@@ -64,16 +64,12 @@ same_act m (Noise l) h e =
     same_arrival m.receiver.capacity h.unread m.receiver.unread (hears m.receiver l).arrived (length h.received) e
 same_act m Read h e = same_read h.unread m.receiver.unread h refl e
 
-entries_push : (xs : List (ℕ × Entry)) (x : ℕ × Entry) → entries_of (xs ++ (x ∷ [])) ≡ entries_of xs ++ (x.1 ∷ [])
-entries_push [] x = refl
-entries_push (y ∷ xs) x = ap {B = List Entry} (λ l. y.1 ∷ l) (entries_push xs x)
-
 noted_oldest : (us : List ℕ) (es : List Entry) (h : History) → length us ≡ length es
     → noted_entries (noted_read us es h) ≡ noted_entries h ++ take 1 es
 noted_oldest [] [] h e = sym (append-nil (noted_entries h))
 noted_oldest [] (x ∷ es) h e = absurd (omega arith)
 noted_oldest (u ∷ us) [] h e = absurd (omega arith)
-noted_oldest (u ∷ us) (x ∷ es) h e = entries_push h.reads (u, x)
+noted_oldest (u ∷ us) (x ∷ es) h e = map-append (λ (y : ℕ × Entry). y.1) h.reads ((u, x) ∷ [])
 
 noted_act : (m : LinkState) (a : Act) (h : History) → Same m h → noted_entries (noted m a h) ≡ noted_entries h ++ answered m a
 noted_act m (Load c) h e = sym (append-nil (noted_entries h))

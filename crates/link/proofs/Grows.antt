@@ -13,13 +13,17 @@ use Rattle.link.specs.History.{begins, History, noted, noted_send, noted_clock, 
 use Rattle.link.specs.Sampling.{Holds, Edge, SampledFrame}
 use Rattle.link.specs.Delivery.{Sampled}
 
-pub record Grows (h g : History) : Type 0 where
-  pub sends : h.sends ≤ g.sends
-  pub begun_length : length h.begun ≤ length g.begun
-  pub begun_same : (i : ℕ) → i < length h.begun → get_or g.begun i 0 ≡ get_or h.begun i 0
-  pub given_length : length h.given ≤ length g.given
-  pub given_same : (i : ℕ) → i < length h.given → get_or g.given i 0 ≡ get_or h.given i 0
-  pub given_later : (i : ℕ) → length h.given ≤ i → i < length g.given → h.sends ≤ get_or g.given i 0
+-- from n send clocks, of which these began frames and these came before the receive clocks, more of each
+pub record Clocks (n : ℕ) (begun given : List ℕ) (n' : ℕ) (begun' given' : List ℕ) : Type 0 where
+  pub sends : n ≤ n'
+  pub begun_length : length begun ≤ length begun'
+  pub begun_same : (i : ℕ) → i < length begun → get_or begun' i 0 ≡ get_or begun i 0
+  pub given_length : length given ≤ length given'
+  pub given_same : (i : ℕ) → i < length given → get_or given' i 0 ≡ get_or given i 0
+  pub given_later : (i : ℕ) → length given ≤ i → i < length given' → n ≤ get_or given' i 0
+
+abbrev pub Grows : History → History → Type 0
+Grows h g = Clocks h.sends h.begun h.given g.sends g.begun g.given
 
 pub grows_same : (h : History) → Grows h h
 grows_same h = record { sends = omega arith; begun_length = omega arith; begun_same = λ i k. refl; given_length = omega arith; given_same = λ i k. refl; given_later = λ i k l. omega arith }
@@ -54,10 +58,10 @@ grows_clock r l h = record {
 grows_read : (us : List ℕ) (es : List Entry) (h : History) → Grows h (noted_read us es h)
 grows_read [] es h = grows_same h
 grows_read (u ∷ us) [] h = grows_same h
-grows_read (u ∷ us) (e ∷ es) h = record { sends = omega arith; begun_length = omega arith; begun_same = λ i x. refl; given_length = omega arith; given_same = λ i k. refl; given_later = λ i k l. omega arith }
+grows_read (u ∷ us) (e ∷ es) h = grows_same h
 
 pub grows_act : (m : LinkState) (a : Act) (h : History) → Grows h (noted m a h)
-grows_act m (Load c) h = record { sends = omega arith; begun_length = omega arith; begun_same = λ i x. refl; given_length = omega arith; given_same = λ i k. refl; given_later = λ i k l. omega arith }
+grows_act m (Load c) h = grows_same h
 grows_act m Send h = grows_send (begins m.sender) h
 grows_act m Receive h = grows_clock m.receiver m.line h
 grows_act m (Noise l) h = grows_clock m.receiver l h

@@ -1,5 +1,6 @@
 -- What each act on a link answers.
 use Rattle.std.specs.Prelude.{List, [], ◌∷◌, Ok, Err, Result}
+use Rattle.std.specs.List.{scan}
 use Rattle.line.specs.declared.refusal.Refusal.{Refusal}
 use Rattle.ends.specs.Sender.{SenderState, sent}
 use Rattle.ends.specs.Receiver.{ReceiverState, Entry, oldest}
@@ -30,8 +31,7 @@ answer m (Noise l) = Ok Done
 answer m Read = read_told (oldest m.receiver.unread)
 
 abbrev pub all_answers : LinkState → List Act → List (Result Answer Refusal)
-all_answers m [] = []
-all_answers m (a ∷ xs) = answer m a ∷ all_answers (after_act m a) xs
+all_answers m xs = scan after_act answer m xs
 
 -- the entries among some answers
 abbrev pub told : List (Result Answer Refusal) → List Entry

@@ -1,5 +1,5 @@
 -- What has happened on a link since a moment.
-use Rattle.std.specs.Prelude.{ℕ, pred, ◌+◌, Bool, true, false, if◌then◌else◌, List, [], ◌∷◌, ◌++◌, length, take, nat_le}
+use Rattle.std.specs.Prelude.{ℕ, pred, ◌+◌, Bool, true, false, if◌then◌else◌, List, [], ◌∷◌, ◌++◌, map, length, take, nat_le}
 use Rattle.line.specs.declared.level.Level.{Level}
 use Rattle.ends.specs.Sender.{SenderState, accepted}
 use Rattle.ends.specs.Receiver.{ReceiverState, Entry, hears}
@@ -36,8 +36,7 @@ begins s = begins_at s.left s.waiting
     begins_at (l ∷ ls) w = false
 
 abbrev pub characters : List Entry → List ℕ
-characters [] = []
-characters (e ∷ es) = e.0 ∷ characters es
+characters es = map (λ e. e.0) es
 
 -- the arrival with number n joins the unread ones, or takes the newest one's place
 abbrev pub numbered : ℕ → List ℕ → List Entry → ℕ → List ℕ
@@ -99,8 +98,7 @@ read_answers m [] = []
 read_answers m (a ∷ xs) = answered m a ++ read_answers (after_act m a) xs
 
 abbrev pub entries_of : List (ℕ × Entry) → List Entry
-entries_of [] = []
-entries_of (x ∷ xs) = x.1 ∷ entries_of xs
+entries_of xs = map (λ x. x.1) xs
 
 -- the entries that a history says were read
 abbrev pub noted_entries : History → List Entry

@@ -1,5 +1,5 @@
 -- A sender and a receiver joined by a line, and what each act does to them.
-use Rattle.std.specs.Prelude.{◌≡◌, ℕ, if◌then◌else◌, List, [], ◌∷◌, Err, Result}
+use Rattle.std.specs.Prelude.{◌≡◌, ℕ, if◌then◌else◌, List, [], fold, Err, Result}
 use Rattle.line.specs.declared.level.Level.{Level}
 use Rattle.line.specs.declared.level.Level.TheVariants.{Mark}
 use Rattle.line.specs.declared.refusal.Refusal.{Refusal}
@@ -40,5 +40,4 @@ after_act m (Noise l) = linked m.sender (after_clock m.receiver l) m.line
 after_act m Read = linked m.sender (after_read m.receiver) m.line
 
 abbrev pub after : LinkState → List Act → LinkState
-after m [] = m
-after m (a ∷ xs) = after (after_act m a) xs
+after m xs = fold after_act m xs

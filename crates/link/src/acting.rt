@@ -104,6 +104,7 @@ impl<S: Sender, R: Receiver> Link<S, R> {
         if answers.len() < acts.len() {
             return Err(Refusal::TooShort);
         }
+        // by index: of answers written through a zip with `iter_mut` the check would know only how many there are
         for (i, act) in acts.iter().enumerate() {
             answers[i] = self.act(*act);
         }

@@ -2,6 +2,7 @@
 use ends::{Receiver, Sender};
 use line::Level;
 
+// No model, which would show of the ends only what they mean: a run that is refused promises that all else stays too.
 #[derive(Drop)]
 pub struct Link<S: Sender, R: Receiver> {
     pub(crate) sender: S,
