@@ -68,12 +68,12 @@ module _ (s : SenderState) (r : ReceiverState) (a b : ℕ) where
   pub fits_passes : Fits s r a b → judged s r a b 0 (1 + first_stop r.format) ≡ Passes
   fits_passes f = all_good (1 + first_stop r.format) 0 (λ j low high. f j (omega arith))
 
--- one turn, by the numbers at hand: where bit k begins and how long it lasts, and its first and third sample
-module _ (s : SenderState) (r : ReceiverState) (a b k bits begin length first third : ℕ) (inside : k < bits)
-    (begins : begin ≡ start_of s.lengths k) (lasts : length ≡ get_or s.lengths k 0) (firsts : first ≡ first_sample r k) (thirds : third ≡ third_sample r k) where
-  pub ends : begin + length ≡ start_of s.lengths (k + 1)
-  ends = ap₂ (λ (x y : ℕ). x + y) begins lasts ∙ sym (start_more s.lengths k)
+pub ends : (ns : List ℕ) (k : ℕ) {begin length : ℕ} → begin ≡ start_of ns k → length ≡ get_or ns k 0 → begin + length ≡ start_of ns (k + 1)
+ends ns k begins lasts = ap₂ (λ (x y : ℕ). x + y) begins lasts ∙ sym (start_more ns k)
 
+-- one turn, by the numbers at hand: where bit k begins and how long it lasts, and its first and third sample
+module _ (s : SenderState) (r : ReceiverState) (a b : ℕ) {k bits begin length first third : ℕ} (inside : k < bits)
+    (begins : begin ≡ start_of s.lengths k) (lasts : length ≡ get_or s.lengths k 0) (firsts : first ≡ first_sample r k) (thirds : third ≡ third_sample r k) where
   left : bits - k ≡ suc (bits - (k + 1))
   left = omega arith
 
@@ -87,7 +87,7 @@ module _ (s : SenderState) (r : ReceiverState) (a b k bits begin length first th
   at_third = ap (λ (x : ℕ). (x + 1) * a) thirds
 
   at_end : (begin + length) * b ≡ start_of s.lengths (k + 1) * b
-  at_end = ap (λ (x : ℕ). x * b) ends
+  at_end = ap (λ (x : ℕ). x * b) (ends s.lengths k begins lasts)
 
   pub turn_early : first * a < begin * b → judged s r a b k (bits - k) ≡ IsEarly k
   turn_early e = ap (judged s r a b k) left ∙ bit_early s r a b k (bits - (k + 1)) (omega (arith, e, at_first, at_begin))

@@ -54,7 +54,8 @@ pub fn fit<S: Sender, R: Receiver>(
     Ok(judge(sender, receiver, rates))
 }
 
-// The bits from the start bit through the first stop bit, one after the other.
+// The bits from the start bit through the first stop bit, one after the other. A fold would have to carry both where a bit begins and the
+// verdict, and be no plainer.
 fn judge<S: Sender, R: Receiver>(sender: &S, receiver: &R, rates: Rates) -> Verdict
     requires { (rates.send ≤ 16777216) × (rates.receive ≤ 16777216) }
     ensures { result ≡ judged (S.Sender.meaning sender.now) (R.Receiver.meaning receiver.now) rates.send rates.receive 0 (1 + first_stop (R.Receiver.meaning receiver.now).format) }

@@ -16,8 +16,7 @@ returns-then-begin-b g c =
     let r = g.R.Receiver.meaning c.args.receiver.now in
     let bits : ℕ = 1 + first_stop r.format in
     let inside : c.loop-bit.bit < bits = omega (arith, c.loop-bit-test.true, c.first_stop-bit-end.ensures, ap first_stop c.format.ensures) in
-    sym (turn_early s r c.args.rates.send c.args.rates.receive c.loop-bit.bit bits c.loop-bit.begin c.bit_length.result c.sample_clock-first.result c.sample_clock-third.result
-    inside c.loop-bit.invariant.0 c.bit_length.ensures c.sample_clock-first.ensures c.sample_clock-third.ensures c.if-begin-b.true) ∙ c.loop-bit.invariant.2
+    sym (turn_early s r c.args.rates.send c.args.rates.receive inside c.loop-bit.invariant.0 c.bit_length.ensures c.sample_clock-first.ensures c.sample_clock-third.ensures c.if-begin-b.true) ∙ c.loop-bit.invariant.2
 
 pub overflow_mul-end : goal.overflow_mul-end
 overflow_mul-end g c =
@@ -35,8 +34,7 @@ returns-then-third-a g c =
     let r = g.R.Receiver.meaning c.args.receiver.now in
     let bits : ℕ = 1 + first_stop r.format in
     let inside : c.loop-bit.bit < bits = omega (arith, c.loop-bit-test.true, c.first_stop-bit-end.ensures, ap first_stop c.format.ensures) in
-    sym (turn_late s r c.args.rates.send c.args.rates.receive c.loop-bit.bit bits c.loop-bit.begin c.bit_length.result c.sample_clock-first.result c.sample_clock-third.result
-    inside c.loop-bit.invariant.0 c.bit_length.ensures c.sample_clock-first.ensures c.sample_clock-third.ensures c.if-begin-b.false c.if-third-a.true) ∙ c.loop-bit.invariant.2
+    sym (turn_late s r c.args.rates.send c.args.rates.receive inside c.loop-bit.invariant.0 c.bit_length.ensures c.sample_clock-first.ensures c.sample_clock-third.ensures c.if-begin-b.false c.if-third-a.true) ∙ c.loop-bit.invariant.2
 
 pub loop-bit-preserved : goal.loop-bit-preserved
 loop-bit-preserved g c =
@@ -45,11 +43,9 @@ loop-bit-preserved g c =
     let bits : ℕ = 1 + first_stop r.format in
     let inside : c.loop-bit.bit < bits = omega (arith, c.loop-bit-test.true, c.first_stop-bit-end.ensures, ap first_stop c.format.ensures) in
     let short : c.bit_length.result ≤ 65536 = omega (arith, c.bit_length.ensures, (g.met.S.Sender.sound c.args.sender.now).short c.loop-bit.bit) in (
-      ends s r c.args.rates.send c.args.rates.receive c.loop-bit.bit bits c.loop-bit.begin c.bit_length.result c.sample_clock-first.result c.sample_clock-third.result
-          inside c.loop-bit.invariant.0 c.bit_length.ensures c.sample_clock-first.ensures c.sample_clock-third.ensures,
+      ends s.lengths c.loop-bit.bit c.loop-bit.invariant.0 c.bit_length.ensures,
       omega (arith, c.loop-bit.invariant.1, short),
-      sym (turn_good s r c.args.rates.send c.args.rates.receive c.loop-bit.bit bits c.loop-bit.begin c.bit_length.result c.sample_clock-first.result c.sample_clock-third.result
-          inside c.loop-bit.invariant.0 c.bit_length.ensures c.sample_clock-first.ensures c.sample_clock-third.ensures c.if-begin-b.false c.if-third-a.false) ∙ c.loop-bit.invariant.2,
+      sym (turn_good s r c.args.rates.send c.args.rates.receive inside c.loop-bit.invariant.0 c.bit_length.ensures c.sample_clock-first.ensures c.sample_clock-third.ensures c.if-begin-b.false c.if-third-a.false) ∙ c.loop-bit.invariant.2,
     )
 
 pub returns : goal.returns
