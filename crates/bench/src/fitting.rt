@@ -5,7 +5,7 @@ use anyhow::bail;
 use ends::{BareReceiver, BareSender};
 use line::Refusal;
 use link::{Rates, Verdict, fit};
-use sheet::{Off, highest, lowest};
+use sheet::{Off, Tolerance};
 use std::io;
 
 const OPTIONS: [&str; 1] = ["--format"];
@@ -50,21 +50,21 @@ pub fn command(rt: &HostRuntime, words: &[String]) -> anyhow::Result<()> {
     let rates = Rates { send, receive };
     let sender = BareSender::new(from);
     let receiver = BareReceiver::new(to);
+    let sending = Tolerance {
+        sender: &sender,
+        receiver: &receiver,
+        rates,
+        off: Off::Sender,
+    };
+    let receiving = Tolerance {
+        off: Off::Receiver,
+        ..sending
+    };
     match fit(&sender, &receiver, rates) {
         Ok(Verdict::Passes) => {
             println!(rt; "They fit: every character arrives as it was sent.")?;
-            print_range(
-                rt,
-                "sender",
-                lowest(&sender, &receiver, rates, Off::Sender),
-                highest(&sender, &receiver, rates, Off::Sender),
-            )?;
-            print_range(
-                rt,
-                "receiver",
-                lowest(&sender, &receiver, rates, Off::Receiver),
-                highest(&sender, &receiver, rates, Off::Receiver),
-            )?;
+            print_range(rt, "sender", sending.lowest(), sending.highest())?;
+            print_range(rt, "receiver", receiving.lowest(), receiving.highest())?;
         }
         Ok(Verdict::Early(bit)) => println!(rt;
             "They do not fit: bit {bit} of a frame can be sampled before it is on the line."

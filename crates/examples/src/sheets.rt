@@ -4,45 +4,49 @@ use ends::{BareReceiver, BareSender};
 use line::Refusal;
 use link::Rates;
 use picture::{Scanner, draw};
-use sheet::{Off, highest, lowest, nearest_divider};
+use sheet::{Off, Tolerance, nearest_divider};
 use std::test::Fail;
 use words::format_named;
 
 // The two rates were found by trying Fit's inequalities hertz by hertz.
 #[test]
 fn a_laptops_clock_may_be_off_so_far(rt: HostRuntime) -> Result<(), Fail> {
-    let to_laptop = Rates {
-        send: 32768,
-        receive: 1843200,
-    };
     let lock = BareSender::new(lock_port()?);
     let laptop = BareReceiver::new(laptop_port()?);
-    assert_eq!(rt;
-        lowest(&lock, &laptop, to_laptop, Off::Receiver),
-        Some(1769954)
-    );
-    assert_eq!(rt;
-        highest(&lock, &laptop, to_laptop, Off::Receiver),
-        Some(1946741)
-    );
-    let to_lock = Rates {
-        send: 1843200,
-        receive: 32768,
+    let to_laptop = Tolerance {
+        sender: &lock,
+        receiver: &laptop,
+        rates: Rates {
+            send: 32768,
+            receive: 1843200,
+        },
+        off: Off::Receiver,
     };
+    assert_eq!(rt; to_laptop.lowest(), Some(1769954));
+    assert_eq!(rt; to_laptop.highest(), Some(1946741));
     let laptop = BareSender::new(laptop_port()?);
     let lock = BareReceiver::new(lock_port()?);
-    assert_eq!(rt; lowest(&laptop, &lock, to_lock, Off::Sender), Some(1797559));
-    assert_eq!(rt;
-        highest(&laptop, &lock, to_lock, Off::Sender),
-        Some(1899307)
-    );
-    // at twice the rate nothing fits
-    let far_off = Rates {
-        send: 3686400,
-        receive: 32768,
+    let to_lock = Tolerance {
+        sender: &laptop,
+        receiver: &lock,
+        rates: Rates {
+            send: 1843200,
+            receive: 32768,
+        },
+        off: Off::Sender,
     };
-    assert_eq!(rt; lowest(&laptop, &lock, far_off, Off::Sender), None);
-    assert_eq!(rt; highest(&laptop, &lock, far_off, Off::Sender), None);
+    assert_eq!(rt; to_lock.lowest(), Some(1797559));
+    assert_eq!(rt; to_lock.highest(), Some(1899307));
+    // at twice the rate nothing fits
+    let far_off = Tolerance {
+        rates: Rates {
+            send: 3686400,
+            receive: 32768,
+        },
+        ..to_lock
+    };
+    assert_eq!(rt; far_off.lowest(), None);
+    assert_eq!(rt; far_off.highest(), None);
     Ok(())
 }
 

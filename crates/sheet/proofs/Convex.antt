@@ -1,5 +1,5 @@
 -- The rates at which Fit passes have no gaps.
-use Rattle.std.proofs.Common.{◌≡◌, ℕ, ◌+◌, ◌≤◌, Bool, true, false, cond, ◌&&◌, leb, Ok, Err, refl, ap₂, mul-le-mul_left, arith}
+use Rattle.std.proofs.Common.{◌≡◌, ℕ, ◌+◌, ◌-◌, ◌≤◌, Bool, true, false, cond, ◌&&◌, leb, Ok, Err, refl, ap₂, mul-le-mul_left, arith}
 use Rattle.std.proofs.lemmas.Bool.{and_parts, leb-true, le-leb}
 use Rattle.line.specs.declared.refusal.Refusal.TheVariants.{OutOfRange, FormatsDiffer}
 use Rattle.line.specs.Formats.{agree}
@@ -15,7 +15,7 @@ use Rattle.link.proofs.Judging.{passes_fits, fits_passes}
 use Rattle.link.specs.declared.rates.Rates.{Rates}
 use Rattle.sheet.specs.declared.tolerance.Off.{Off}
 use Rattle.sheet.specs.declared.tolerance.Off.TheVariants.{Sender, Receiver}
-use Rattle.sheet.specs.Tolerance.{is_pass, passes_at}
+use Rattle.sheet.specs.Tolerance.{is_pass, passes_at, UpTo, DownTo}
 
 -- what Fit needs to pass
 pub record Passing (s : SenderState) (r : ReceiverState) (a b : ℕ) : Type 0 where
@@ -80,6 +80,14 @@ no_gaps s r q Receiver b c n at_low at_high low high =
       agreed = x.agreed;
       fits = between_receive s r q.send b c n low high x.fits y.fits;
     })
+
+-- so it passes all the way between a rate and the last one
+module _ (s : SenderState) (r : ReceiverState) (q : Rates) (o : Off) (from to : ℕ) (at_from : passes_at s r q o from ≡ true) (at_to : passes_at s r q o to ≡ true) where
+  pub up_to : from ≤ to → passes_at s r q o (to + 1) ≡ false → UpTo (passes_at s r q o) from to
+  up_to above beyond = record { above = above; within = λ n low high. no_gaps s r q o from to n at_from at_to low high; beyond = beyond }
+
+  pub down_to : to ≤ from → passes_at s r q o (to - 1) ≡ false → DownTo (passes_at s r q o) from to
+  down_to below beyond = record { below = below; within = λ n low high. no_gaps s r q o to from n at_to at_from low high; beyond = beyond }
 
 -- a rate at which Fit passes is in range
 pub in_range : (s : SenderState) (r : ReceiverState) (q : Rates) (o : Off) (n : ℕ) → passes_at s r q o n ≡ true → (1 ≤ n) × (n ≤ 16777216)

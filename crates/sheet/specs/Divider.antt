@@ -1,5 +1,5 @@
 -- The divider whose bit length is nearest to that of a baud rate.
-use Rattle.std.specs.Prelude.{ℕ, ◌+◌, ◌-◌, ◌*◌, ◌/◌, ◌≤◌, cond, ◌||◌, Ok, Err, Result, ◌==◌, nat_lt}
+use Rattle.std.specs.Prelude.{ℕ, ◌+◌, ◌-◌, ◌*◌, ◌/◌, ◌≤◌, ◌||◌, Ok, Err, Result, ◌==◌, nat_lt, if◌then◌else◌}
 use Rattle.line.specs.declared.refusal.Refusal.{Refusal}
 use Rattle.line.specs.declared.refusal.Refusal.TheVariants.{OutOfRange}
 
@@ -16,5 +16,5 @@ rounded hertz unit = (hertz + unit / 2) / unit
 
 abbrev pub nearest : ℕ → ℕ → Result ℕ Refusal
 nearest hertz baud =
-    cond (16 * baud == 0) (Err OutOfRange)
-    (cond (nat_lt (rounded hertz (16 * baud)) 1 || nat_lt 4096 (rounded hertz (16 * baud))) (Err OutOfRange) (Ok (rounded hertz (16 * baud))))
+    if 16 * baud == 0 then Err OutOfRange
+    else (if nat_lt (rounded hertz (16 * baud)) 1 || nat_lt 4096 (rounded hertz (16 * baud)) then Err OutOfRange else Ok (rounded hertz (16 * baud)))

@@ -20,7 +20,7 @@ pub fn nearest_divider(hertz: u32, baud: u32) -> Result<u16, Refusal>
         return Err(Refusal::OutOfRange);
     }
     let divider = (u64::from(hertz) + unit / 2) / unit;
-    if divider < 1 || divider > MOST {
+    if !(1..=MOST).contains(&divider) {
         return Err(Refusal::OutOfRange);
     }
     Ok(divider as u16)

@@ -7,4 +7,4 @@ pub mod tolerance;
 
 pub use divider::nearest_divider;
 pub use link::Rates;
-pub use tolerance::{Off, highest, lowest};
+pub use tolerance::{Off, Tolerance};

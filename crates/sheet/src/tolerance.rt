@@ -1,6 +1,5 @@
 // How far the clock of an end may be off before Fit no longer passes.
-ghost use Rattle.std.specs.Prelude.{◌≡◌, false, MatchOption};
-ghost use Rattle.sheet.specs.Tolerance.{own_rate, passes_at, UpTo, DownTo};
+ghost use Rattle.std.specs.Prelude.{◌≡◌, ◌+◌, ◌-◌, ◌<◌, ◌≤◌, true, false, MatchOption};
 
 use ends::{Receiver, Sender};
 use link::{Rates, Verdict, fit};
@@ -9,97 +8,89 @@ use link::{Rates, Verdict, fit};
 const ABOVE_ALL: u32 = 16_777_217;
 
 // The end whose clock is off.
-#[derive(Clone, Copy)]
+#[derive(Clone, Copy, PartialEq, Eq, Debug)]
 pub enum Off {
     Sender,
     Receiver,
 }
 
-impl Off {
-    // The rate that the clock of this end should have.
-    fn own_rate(self, rates: Rates) -> u32
-        ensures { result ≡ own_rate rates self }
+// Two ends with the rates that their clocks should have, and the end whose clock is off.
+#[derive(Clone, Copy)]
+pub struct Tolerance<'a, S, R> {
+    pub sender: &'a S,
+    pub receiver: &'a R,
+    pub rates: Rates,
+    pub off: Off,
+}
+
+impl<S: Sender, R: Receiver> Tolerance<'_, S, R> {
+    ghost use Rattle.sheet.specs.Tolerance.{own_rate, passes_at, UpTo, DownTo};
+
+    // The rate that the clock should have.
+    fn own_rate(&self) -> u32
+        ensures { result ≡ own_rate self.now.rates self.now.off }
     {
-        match self {
-            Off::Sender => rates.send,
-            Off::Receiver => rates.receive,
+        match self.off {
+            Off::Sender => self.rates.send,
+            Off::Receiver => self.rates.receive,
         }
     }
-}
 
-// Whether Fit passes when the clock of an end has this rate, and the other the rate that it should have.
-fn passes<S: Sender, R: Receiver>(
-    sender: &S,
-    receiver: &R,
-    rates: Rates,
-    off: Off,
-    hertz: u32,
-) -> bool
-    ensures { result ≡ passes_at (S.Sender.meaning sender.now) (R.Receiver.meaning receiver.now) rates off hertz }
-{
-    let varied = match off {
-        Off::Sender => Rates {
-            send: hertz,
-            ..rates
-        },
-        Off::Receiver => Rates {
-            receive: hertz,
-            ..rates
-        },
-    };
-    match fit(sender, receiver, varied) {
-        Ok(Verdict::Passes) => true,
-        Ok(Verdict::Early(_) | Verdict::Late(_)) => false,
-        Err(_) => false,
+    // Whether Fit passes when the clock has this rate, and the other the rate that it should have.
+    fn passes(&self, hertz: u32) -> bool
+        ensures { result ≡ passes_at (S.Sender.meaning self.now.sender.now) (R.Receiver.meaning self.now.receiver.now) self.now.rates self.now.off hertz }
+    {
+        let varied = match self.off {
+            Off::Sender => Rates {
+                send: hertz,
+                ..self.rates
+            },
+            Off::Receiver => Rates {
+                receive: hertz,
+                ..self.rates
+            },
+        };
+        matches!(fit(self.sender, self.receiver, varied), Ok(Verdict::Passes))
     }
-}
 
-// The highest rate of that clock up to which Fit passes; none where it does not pass at all.
-pub fn highest<S: Sender, R: Receiver>(
-    sender: &S,
-    receiver: &R,
-    rates: Rates,
-    off: Off,
-) -> Option<u32>
-    ensures { MatchOption result (passes_at (S.Sender.meaning sender.now) (R.Receiver.meaning receiver.now) rates off (own_rate rates off) ≡ false) (λ h. UpTo (passes_at (S.Sender.meaning sender.now) (R.Receiver.meaning receiver.now) rates off) (own_rate rates off) h) }
-{
-    let mut good = off.own_rate(rates);
-    if !passes(sender, receiver, rates, off, good) {
-        return None;
-    }
-    let mut bad = ABOVE_ALL;
-    while bad - good > 1 {
-        let middle = good + (bad - good) / 2;
-        if passes(sender, receiver, rates, off, middle) {
-            good = middle;
-        } else {
-            bad = middle;
+    // The last rate at which Fit passes, from one at which it does towards one at which it doesn't.
+    fn edge(&self, mut good: u32, mut bad: u32) -> u32
+        requires good { passes_at (S.Sender.meaning self.now.sender.now) (R.Receiver.meaning self.now.receiver.now) self.now.rates self.now.off good ≡ true }
+        requires bad { passes_at (S.Sender.meaning self.now.sender.now) (R.Receiver.meaning self.now.receiver.now) self.now.rates self.now.off bad ≡ false }
+        ensures passes { passes_at (S.Sender.meaning self.now.sender.now) (R.Receiver.meaning self.now.receiver.now) self.now.rates self.now.off result ≡ true }
+        ensures up { good < bad → (good ≤ result) × (passes_at (S.Sender.meaning self.now.sender.now) (R.Receiver.meaning self.now.receiver.now) self.now.rates self.now.off (result + 1) ≡ false) }
+        ensures down { bad < good → (result ≤ good) × (passes_at (S.Sender.meaning self.now.sender.now) (R.Receiver.meaning self.now.receiver.now) self.now.rates self.now.off (result - 1) ≡ false) }
+    {
+        while good.abs_diff(bad) > 1 {
+            let middle = good.midpoint(bad);
+            if self.passes(middle) {
+                good = middle;
+            } else {
+                bad = middle;
+            }
         }
+        good
     }
-    Some(good)
-}
 
-// The lowest rate of that clock down to which Fit passes; none where it does not pass at all.
-pub fn lowest<S: Sender, R: Receiver>(
-    sender: &S,
-    receiver: &R,
-    rates: Rates,
-    off: Off,
-) -> Option<u32>
-    ensures { MatchOption result (passes_at (S.Sender.meaning sender.now) (R.Receiver.meaning receiver.now) rates off (own_rate rates off) ≡ false) (λ h. DownTo (passes_at (S.Sender.meaning sender.now) (R.Receiver.meaning receiver.now) rates off) (own_rate rates off) h) }
-{
-    let mut good = off.own_rate(rates);
-    if !passes(sender, receiver, rates, off, good) {
-        return None;
-    }
-    let mut bad = 0;
-    while good - bad > 1 {
-        let middle = bad + (good - bad) / 2;
-        if passes(sender, receiver, rates, off, middle) {
-            good = middle;
-        } else {
-            bad = middle;
+    // The highest rate of the clock up to which Fit passes; none where it does not pass at all.
+    pub fn highest(&self) -> Option<u32>
+        ensures { MatchOption result (passes_at (S.Sender.meaning self.now.sender.now) (R.Receiver.meaning self.now.receiver.now) self.now.rates self.now.off (own_rate self.now.rates self.now.off) ≡ false) (λ h. UpTo (passes_at (S.Sender.meaning self.now.sender.now) (R.Receiver.meaning self.now.receiver.now) self.now.rates self.now.off) (own_rate self.now.rates self.now.off) h) }
+    {
+        let own = self.own_rate();
+        if !self.passes(own) {
+            return None;
         }
+        Some(self.edge(own, ABOVE_ALL))
     }
-    Some(good)
+
+    // The lowest rate of the clock down to which Fit passes; none where it does not pass at all.
+    pub fn lowest(&self) -> Option<u32>
+        ensures { MatchOption result (passes_at (S.Sender.meaning self.now.sender.now) (R.Receiver.meaning self.now.receiver.now) self.now.rates self.now.off (own_rate self.now.rates self.now.off) ≡ false) (λ h. DownTo (passes_at (S.Sender.meaning self.now.sender.now) (R.Receiver.meaning self.now.receiver.now) self.now.rates self.now.off) (own_rate self.now.rates self.now.off) h) }
+    {
+        let own = self.own_rate();
+        if !self.passes(own) {
+            return None;
+        }
+        Some(self.edge(own, 0))
+    }
 }

@@ -4,7 +4,7 @@ use super::verdicts::Told;
 use ends::{BareReceiver, BareSender, Timing};
 use line::{Format, Refusal};
 use link::{Rates, Verdict, fit};
-use sheet::{Off, highest, lowest, nearest_divider};
+use sheet::{Off, Tolerance, nearest_divider};
 use std::io;
 use usart::{ROWS, Row};
 
@@ -41,8 +41,14 @@ fn judged(
     hertz: u32,
 ) -> Result<Way, Refusal> {
     let verdict = fit(sender, receiver, rates)?;
-    let slowest = lowest(sender, receiver, rates, off).unwrap_or(hertz);
-    let fastest = highest(sender, receiver, rates, off).unwrap_or(hertz);
+    let tolerance = Tolerance {
+        sender,
+        receiver,
+        rates,
+        off,
+    };
+    let slowest = tolerance.lowest().unwrap_or(hertz);
+    let fastest = tolerance.highest().unwrap_or(hertz);
     Ok(Way {
         verdict,
         slow: tenths(hertz.saturating_sub(slowest), hertz),
