@@ -10,14 +10,12 @@ use Rattle.std.specs.Option.{ForSome}
 use Rattle.ends.specs.Sender.{SenderState, empty, accepted, sent, after_send}
 use Rattle.ends.specs.BareSender.{meant}
 use Rattle.chip.specs.declared.mode.Mode.{Mode}
-use Rattle.chip.specs.declared.transmit.Transmit.{Transmit}
-use Rattle.chip.specs.declared.receive.Receive.{Receive}
-use Rattle.chip.specs.declared.rate.Rate.{Rate}
 use Rattle.chip.specs.Bytes.{has}
 use Rattle.chip.specs.Modes.{format_of, character_of}
 use Rattle.chip.specs.declared.pair.Ends.{Ends}
 use Rattle.chip.specs.Pairs.{EndsState, ends_of, ends_clocked, ends_loaded}
-use Rattle.chip.specs.Chips.{ChipState, holding, resets, write_answer, written, clocked, leaves, on_line, utxd}
+use Rattle.chip.specs.declared.registers.Chip.{Chip}
+use Rattle.chip.specs.Chips.{ChipState, chip_of, holding, resets, write_answer, written, clocked, leaves, on_line, utxd}
 use Rattle.chip.specs.Acts.{Act, writes, reads, clocks, NoReset, on_utxd, Step, loads, said, AllTaken, steps}
 use Rattle.chip.specs.Laws.{Speaks}
 use Rattle.chip.proofs.Clocks.{room_after, send_format, send_capacity, few_after, one_waits}
@@ -126,10 +124,12 @@ speaks (clocks l ∷ xs) nr c e is ok =
     (sym (ap (λ (o : Option EndsState). clocked c o l) is)) (ap₂ {C = List Level} (λ y ys. y ∷ ys) (ap on_line is) more.0, more.1)
 
 -- so does a chip, in reset or not
-pub chip_speaks : (m : Mode) (t : Transmit) (r : Receive) (q : Rate) (o : Option Ends)
-    → ForSome o (λ e. width (meant e.sender).format ≡ width (format_of m)) → Speaks (holding m t r q (option_map ends_of o))
-chip_speaks m t r q None wide f is acts nr = cc
-chip_speaks m t r q (Some e) wide f is acts nr =
-    let same : ends_of e ≡ f = cc in
-    speaks acts nr (holding m t r q (Some (ends_of e))) f is (subst (λ (g : EndsState). Sound m (empty (meant e.sender).waiting) g.sender) same
-    (record { wide = wide e refl; one = refl; room = refl; few = one_waits e.sender.waiting }))
+pub speaking : (k : Chip) → Speaks (chip_of k)
+speaking k = go k.ends k.wide
+  where
+    go : (o : Option Ends) → ForSome o (λ e. width (meant e.sender).format ≡ width (format_of k.mode)) → Speaks (holding k.mode k.transmit k.receive k.rate (option_map ends_of o))
+    go None wide f is acts nr = cc
+    go (Some e) wide f is acts nr =
+        let same : ends_of e ≡ f = cc in
+        speaks acts nr (holding k.mode k.transmit k.receive k.rate (Some (ends_of e))) f is (subst (λ (g : EndsState). Sound k.mode (empty (meant e.sender).waiting) g.sender) same
+        (record { wide = wide e refl; one = refl; room = refl; few = one_waits e.sender.waiting }))

@@ -72,7 +72,7 @@ impl From<Mode> for Format {
 }
 
 impl Mode {
-    // UCTL as it is read, with SWRST as it stands.
+    // UCTL as it is read, with SWRST as it stands: no From, since SWRST is no part of a mode.
     pub(crate) fn byte(self, swrst: bool) -> u8
         ensures { result ≡ mode_byte self swrst }
     {
@@ -99,6 +99,7 @@ impl Mode {
     pub(crate) fn cut(self, value: u8) -> u8
         ensures { result ≡ value % values self }
     {
+        // below 256, so the cast keeps it
         (u16::from(value) % self.values()) as u8
     }
 

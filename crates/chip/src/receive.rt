@@ -43,7 +43,7 @@ impl Receive {
         self.rxwake &= rxwake;
     }
 
-    // URCTL as it is read.
+    // URCTL as it is read: no From, since URXBUF is a byte of this too.
     pub(crate) fn byte(self) -> u8
         ensures { result ≡ receive_byte self }
     {
@@ -88,6 +88,7 @@ impl Receive {
         }
         self.oe |= self.urxifg;
         self.urxifg = true;
+        // below 256, so the cast keeps it
         self.urxbuf = (character % mode.values()) as u8;
         if mode.mm {
             self.rxwake = address;

@@ -39,7 +39,7 @@ impl Transmit {
         };
     }
 
-    // UTCTL as it is read, with TXEPT as it stands.
+    // UTCTL as it is read, with TXEPT as it stands: no From, since TXEPT is no part of this.
     pub(crate) fn byte(self, txept: bool) -> u8
         ensures { result ≡ transmit_byte self txept }
     {

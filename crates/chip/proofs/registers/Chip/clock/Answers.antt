@@ -1,17 +1,11 @@
 -- A clock does to the registers what it does to the ends.
 use Rattle.std.proofs.Common.{sym, ap, ◌∙◌}
 use Rattle.std.specs.Option.{option_to_list}
-use Rattle.chip.specs.declared.registers.Chip.{Chip}
 use Rattle.chip.specs.Receiving.{all_taken}
-use Rattle.chip.specs.Chips.{chip_of}
-use Rattle.chip.specs.Laws.{Speaks}
-use Rattle.chip.proofs.Speaks.{chip_speaks}
+use Rattle.chip.proofs.Speaks.{speaking}
 use Rattle.chip.proofs.Receives.{receives}
 use Rattle.chip.proofs.Clocks.{still_wide, clocked_chip}
 use Rattle.chip.proofs.registers.Chip.clock.Goals as goal
-
-speaks : (k : Chip) → Speaks (chip_of k)
-speaks k = chip_speaks k.mode k.transmit k.receive k.rate k.ends k.wide
 
 pub invariant_of-self-in-Some-arrived : goal.invariant_of-self-in-Some-arrived
 invariant_of-self-in-Some-arrived c =
@@ -30,7 +24,7 @@ returns-in-Some-arrived-clause-state c =
     (c.take.ensures ∙ ap (all_taken k.mode k.receive) (sym (ap option_to_list c.in-Some-arrived.is) ∙ c.clock-utxd.ensures.arrived))
 
 pub returns-in-Some-arrived-clause-speaks : goal.returns-in-Some-arrived-clause-speaks
-returns-in-Some-arrived-clause-speaks c = speaks c.args.self.now
+returns-in-Some-arrived-clause-speaks c = speaking c.args.self.now
 
 pub returns-in-Some-arrived-clause-listens : goal.returns-in-Some-arrived-clause-listens
 returns-in-Some-arrived-clause-listens c = receives _
@@ -42,7 +36,7 @@ returns-in_default-arrived-clause-state c =
     (ap (all_taken k.mode k.receive) (sym (ap option_to_list c.in_default-arrived.is) ∙ c.clock-utxd.ensures.arrived))
 
 pub returns-in_default-arrived-clause-speaks : goal.returns-in_default-arrived-clause-speaks
-returns-in_default-arrived-clause-speaks c = speaks c.args.self.now
+returns-in_default-arrived-clause-speaks c = speaking c.args.self.now
 
 pub returns-in_default-arrived-clause-listens : goal.returns-in_default-arrived-clause-listens
 returns-in_default-arrived-clause-listens c = receives _
