@@ -1,8 +1,10 @@
 -- How many clocks bits and frames take, and what is left of a frame after some of its bits.
-use Rattle.std.proofs.Common.{◌≡◌, ℕ, zero, suc, ◌+◌, ◌-◌, ◌*◌, ◌/◌, ◌%◌, ◌<◌, ◌≤◌, List, [], ◌∷◌, ◌++◌, map, length, get_or, drop, replicate, sym, refl, ap, ◌∙◌, ap₂, suc-mul, arith}
+use Rattle.std.proofs.Common.{◌≡◌, ℕ, zero, suc, ◌+◌, ◌-◌, ◌*◌, ◌/◌, ◌%◌, ◌<◌, ◌≤◌, List, [], ◌∷◌, ◌++◌, map, length, get_or, take, drop, replicate, sym, refl, ap, ◌∙◌, ap₂, suc-mul, arith}
 use lib.LanesLaws.{map-replicate}
 use lib.ListN.{get_or-map}
-use Rattle.std.proofs.lemmas.List.{length-append, length-map, map-append, drop_more}
+use Rattle.std.specs.List.{sum_by}
+use Rattle.std.proofs.lemmas.List.Sums.{sum_by-cons}
+use Rattle.std.proofs.lemmas.List.{length-append, length-map, map-append, get_or-take, drop_more}
 use Rattle.line.specs.declared.level.Level.{Level}
 use Rattle.line.specs.declared.level.Level.TheVariants.{Mark}
 use Rattle.line.specs.declared.format.Format.{Format}
@@ -11,7 +13,7 @@ use Rattle.line.specs.Frames.{frame_bits, frame}
 use Rattle.line.proofs.Digits.{low_number}
 use Rattle.line.proofs.Bits.{frame_length, frame_fits}
 use Rattle.ends.specs.declared.timing.Timing.{Timing}
-use Rattle.ends.specs.Times.{start_of, held}
+use Rattle.ends.specs.Times.{sum, start_of, held}
 use Rattle.ends.specs.Sender.{frames, frame_levels}
 use Rattle.ends.specs.BareSender.{at_rest}
 use Rattle.ends.proofs.Held.{held_length}
@@ -21,6 +23,17 @@ use Rattle.picture.specs.Drawing.{bytes, frame_clocks, drawn_frame, drawn, loade
 
 pub bits_most : (f : Format) → frame_bits f ≤ 13
 bits_most f = omega (arith, frame_length f 0, frame_fits f 0)
+
+-- the library adds from the left
+pub same_sum : (ns : List ℕ) → sum_by (λ x. x) ns ≡ sum ns
+same_sum [] = refl
+same_sum (n ∷ ns) = sum_by-cons (λ x. x) n ns ∙ ap (λ (m : ℕ). n + m) (same_sum ns)
+
+-- no bit lasts longer than 65,536 clocks
+pub clocks_most : (ns : List ℕ) (k : ℕ) → ((i : ℕ) → get_or ns i 0 ≤ 65536) → start_of ns k ≤ 65536 * k
+clocks_most ns zero h = omega arith
+clocks_most [] (suc k) h = omega arith
+clocks_most (n ∷ ns) (suc k) h = omega (arith, h 0, clocks_most ns k (λ i. h (suc i)))
 
 levels_length : (t : Timing) (c : ℕ) → length (held t.lengths (frame t.format c)) ≡ frame_clocks t
 levels_length t c = held_length t.lengths (frame t.format c) ∙ ap (start_of t.lengths) (frame_length t.format c)
@@ -69,16 +82,18 @@ module _ (t : Timing) (k : ℕ) (h : k < frame_bits t.format) where
   lengths_from : drop k t.lengths ≡ get_or t.lengths k 0 ∷ drop (k + 1) t.lengths
   lengths_from = drop_more t.lengths k 0 (omega (arith, t.thirteen, bits_most t.format))
 
-  pub next_clocks : start_of (drop k t.lengths) (bits - k) ≡ get_or t.lengths k 0 + start_of (drop (k + 1) t.lengths) (bits - (k + 1))
-  next_clocks = ap₂ (λ ns m. start_of ns m) lengths_from count
-
-  pub next_bit : (d : ℕ) → from_bit t k d ≡ replicate (get_or t.lengths k 0) (d % 2) ++ from_bit t (k + 1) (d / 2)
-  next_bit d =
+  next_bit_at : (d : ℕ) → from_bit t k d ≡ replicate (get_or t.lengths k 0) (d % 2) ++ from_bit t (k + 1) (d / 2)
+  next_bit_at d =
       let n = get_or t.lengths k 0 in
       let ls = held (drop (k + 1) t.lengths) (low_bits (bits - (k + 1)) (d / 2)) in
       ap₂ {C = List ℕ} (λ ns m. bytes (held ns (low_bits m d))) lengths_from count
       ∙ map-append byte_of (replicate n (level_of (d % 2))) ls
       ∙ ap (λ l. l ++ bytes ls) (map-replicate byte_of n (level_of (d % 2)) ∙ ap (replicate n) (digit_byte (d % 2) (omega arith)))
+
+  -- the length stands in the part of the table that the format uses
+  pub next_bit : (d b : ℕ) → b ≡ bits → from_bit t k d ≡ replicate (get_or (take b t.lengths) k 0) (d % 2) ++ from_bit t (k + 1) (d / 2)
+  next_bit d b e =
+      next_bit_at d ∙ ap (λ m. replicate m (d % 2) ++ from_bit t (k + 1) (d / 2)) (sym (get_or-take b t.lengths k 0 (omega arith)))
 
 pub past_last : (t : Timing) (k d : ℕ) → frame_bits t.format ≤ k → from_bit t k d ≡ []
 past_last t k d h =

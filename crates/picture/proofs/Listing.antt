@@ -44,7 +44,7 @@ goes_on (b ∷ bs) r more =
     ∙ ap {B = List Entry} (λ es. (came ++ es) ++ taken_down (after_listed (after_read c) (levels bs)) (levels more)) (unread_apart c us (levels bs))
 
 -- an entry written at the end of those written so far
-module _ (es old more total : List Entry) (k : ℕ) (e : Entry) where
+module _ {E : Type 0} (es old more total : List E) (k : ℕ) (e : E) where
   pub room_for : k ≤ length es → take k es ++ (e ∷ more) ≡ total → length total ≤ length es → k < length es
   room_for within is fits = omega (arith, within, fits, ap length is, length-append (take k es) (e ∷ more), length-take-le k es within)
 
@@ -52,20 +52,20 @@ module _ (es old more total : List Entry) (k : ℕ) (e : Entry) where
       → (take (k + 1) (set es k e) ++ more ≡ total) × (drop (k + 1) (set es k e) ≡ drop (k + 1) old)
   written within is rest =
       let past : k < k + 1 = omega arith in (
-        ap {B = List Entry} (λ l. l ++ more) (take_more_set es k e within) ∙ append_assoc (take k es) (e ∷ []) more ∙ is,
-        drop-set-lt (k + 1) es k e past ∙ sym (again es) ∙ ap (λ (l : List Entry). drop 1 l) rest ∙ again old,
+        ap {B = List E} (λ l. l ++ more) (take_more_set es k e within) ∙ append_assoc (take k es) (e ∷ []) more ∙ is,
+        drop-set-lt (k + 1) es k e past ∙ sym (again es) ∙ ap (λ (l : List E). drop 1 l) rest ∙ again old,
       )
     where
-      again : (l : List Entry) → drop 1 (drop k l) ≡ drop (k + 1) l
+      again : (l : List E) → drop 1 (drop k l) ≡ drop (k + 1) l
       again l = drop-drop 1 k l
 
 -- all written, and the rest as it was
-pub all_written : (es old total : List Entry) (k : ℕ) → k ≤ length es → take k es ++ [] ≡ total → drop k es ≡ drop k old
+pub all_written : {E : Type 0} (es old total : List E) (k : ℕ) → k ≤ length es → take k es ++ [] ≡ total → drop k es ≡ drop k old
     → es ≡ total ++ drop (length total) old
-all_written es old total k within is rest =
+all_written {E} es old total k within is rest =
     let first : take k es ≡ total = sym (append-nil (take k es)) ∙ is in
     let size : k ≡ length total = sym (length-take-le k es within) ∙ ap length first in
-    sym (take-append-drop k es) ∙ ap₂ {C = List Entry} (λ a b. a ++ b) first (rest ∙ ap (λ (n : ℕ). drop n old) size)
+    sym (take-append-drop k es) ∙ ap₂ {C = List E} (λ a b. a ++ b) first (rest ∙ ap (λ (n : ℕ). drop n old) size)
 
 levels_bytes : (ls : List Level) → levels (bytes ls) ≡ ls
 levels_bytes [] = refl

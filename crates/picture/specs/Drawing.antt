@@ -1,5 +1,6 @@
 -- What a drawing holds, and when a call to draw declines.
-use Rattle.std.specs.Prelude.{◌≡◌, ℕ, ◌^◌, Bool, false, cond, ◌||◌, List, [], ◌∷◌, map, length, Ok, Err, Result, nat_le, nat_lt, slice_index_or}
+use Rattle.std.specs.Prelude.{◌≡◌, ℕ, ◌^◌, Bool, if◌then◌else◌, ◌||◌, List, [], map, length, Ok, Err, Result, nat_le, nat_lt, slice_index_or}
+use Rattle.std.specs.List.{list_any}
 use Rattle.line.specs.declared.level.Level.{Level}
 use Rattle.line.specs.declared.format.Format.{Format}
 use Rattle.line.specs.declared.refusal.Refusal.{Refusal}
@@ -30,8 +31,7 @@ drawn t cs = bytes (frames (at_rest t) cs)
 
 -- some number is not below the limit
 abbrev pub any_from : ℕ → List ℕ → Bool
-any_from limit [] = false
-any_from limit (c ∷ cs) = nat_le limit c || any_from limit cs
+any_from limit cs = list_any (nat_le limit) cs
 
 -- some character has more bits than the format
 abbrev pub any_wide : Format → List ℕ → Bool
@@ -40,8 +40,8 @@ any_wide f cs = any_from (2 ^ width f) cs
 -- the number of bytes drawn, or why nothing is: room is the length of the buffer
 abbrev pub draw_answer : Timing → List ℕ → ℕ → Result ℕ Refusal
 draw_answer t cs room =
-    cond (any_wide t.format cs) (Err TooWide)
-    (cond (nat_lt 4096 (length cs) || nat_lt room (length (drawn t cs))) (Err TooShort) (Ok (length (drawn t cs))))
+    let size = length (drawn t cs) in
+    if any_wide t.format cs then Err TooWide else (if nat_lt 4096 (length cs) || nat_lt room size then Err TooShort else Ok size)
 
 -- a sender with these times that has nothing on the line and these characters to send
 abbrev pub loaded : Timing → List ℕ → SenderState

@@ -1,5 +1,6 @@
 -- What a scan of a picture lists, and when it declines.
-use Rattle.std.specs.Prelude.{◌≡◌, ℕ, Bool, false, cond, ◌||◌, List, [], ◌∷◌, ◌++◌, map, length, Ok, Err, Result, nat_lt}
+use Rattle.std.specs.Prelude.{◌≡◌, ℕ, Bool, if◌then◌else◌, List, [], ◌∷◌, ◌++◌, map, length, Ok, Err, Result, nat_lt}
+use Rattle.std.specs.List.{list_any}
 use Rattle.line.specs.declared.level.Level.{Level}
 use Rattle.line.specs.declared.refusal.Refusal.{Refusal}
 use Rattle.line.specs.declared.refusal.Refusal.TheVariants.{NotALevel, TooShort}
@@ -21,8 +22,7 @@ levels bs = map level_of bs
 
 -- some byte stands for no level
 abbrev pub any_other : List ℕ → Bool
-any_other [] = false
-any_other (b ∷ bs) = nat_lt 1 b || any_other bs
+any_other bs = list_any (nat_lt 1) bs
 
 -- every entry that arrives at a new bare receiver that is given the picture, each read as it arrives
 abbrev pub listed : Timing → List ℕ → List Entry
@@ -31,14 +31,14 @@ listed t bs = taken_down (at_rest t) (levels bs)
 -- how many entries arrive at a receiver with some bytes, or why none is listed: room is the length of the list
 abbrev pub piece_answer : ReceiverState → List ℕ → ℕ → Result ℕ Refusal
 piece_answer r bs room =
-    cond (any_other bs) (Err NotALevel)
-    (cond (nat_lt room (length (taken_down r (levels bs)))) (Err TooShort) (Ok (length (taken_down r (levels bs)))))
+    let found = length (taken_down r (levels bs)) in
+    if any_other bs then Err NotALevel else (if nat_lt room found then Err TooShort else Ok found)
 
 -- how many entries there are, or why none is listed: room is the length of the list
 abbrev pub scan_answer : Timing → List ℕ → ℕ → Result ℕ Refusal
 scan_answer t bs room =
-    cond (any_other bs) (Err NotALevel)
-    (cond (nat_lt room (length (listed t bs))) (Err TooShort) (Ok (length (listed t bs))))
+    let found = length (listed t bs) in
+    if any_other bs then Err NotALevel else (if nat_lt room found then Err TooShort else Ok found)
 
 -- the receiver after some levels, each entry read as it arrives
 abbrev pub after_listed : ReceiverState → List Level → ReceiverState

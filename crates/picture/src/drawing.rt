@@ -36,12 +36,7 @@ fn any_wide(format: Format, characters: &[u16]) -> bool
     ensures { result ≡ any_wide format characters.now }
 {
     let limit = format.characters();
-    for character in characters {
-        if *character >= limit {
-            return true;
-        }
-    }
-    false
+    characters.iter().any(|character| *character >= limit)
 }
 
 // How many clocks a frame lasts, whatever its character.
@@ -49,11 +44,10 @@ fn frame_clocks(timing: &Timing) -> usize
     ensures value { result ≡ frame_clocks timing.now }
     ensures bound { result ≤ 13 * 65536 }
 {
-    let mut clocks = 0;
-    for bit in 0..timing.format.bits() {
-        clocks += timing.lengths[bit] as usize;
-    }
-    clocks
+    timing.lengths[..timing.format.bits()]
+        .iter()
+        .map(|clocks| *clocks as usize)
+        .sum()
 }
 
 // Draws the frame of a character at the beginning of the part.
@@ -63,8 +57,8 @@ fn draw_frame(timing: &Timing, character: u16, part: &mut [u8])
 {
     let mut digits = timing.format.frame(character);
     let mut at = 0;
-    for bit in 0..timing.format.bits() {
-        let clocks = timing.lengths[bit] as usize;
+    for length in &timing.lengths[..timing.format.bits()] {
+        let clocks = *length as usize;
         draw_run(&mut part[at..], clocks, (digits % 2) as u8);
         digits /= 2;
         at += clocks;

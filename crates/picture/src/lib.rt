@@ -3,13 +3,15 @@
 #![tactic(auto)]
 
 pub mod drawing;
+pub mod from_entry;
 pub mod runs;
 pub mod scanner;
 pub mod scanning;
 pub mod spoiling;
 
 pub use drawing::draw;
+pub use from_entry::FromEntry;
 pub use runs::run_length;
 pub use scanner::Scanner;
-pub use scanning::scan;
+pub use scanning::{scan, scan_into};
 pub use spoiling::hold_space;

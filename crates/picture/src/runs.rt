@@ -8,10 +8,8 @@ pub fn run_length(picture: &[u8]) -> usize
     ensures ends { result < length picture.now → slice_index picture.now result ≢ slice_index picture.now 0 }
     ensures some { 0 < length picture.now → 0 < result }
 {
-    for (i, byte) in picture.iter().enumerate() {
-        if *byte != picture[0] {
-            return i;
-        }
-    }
-    picture.len()
+    picture
+        .iter()
+        .take_while(|byte| **byte == picture[0])
+        .count()
 }

@@ -7,7 +7,5 @@ pub fn hold_space(picture: &mut [u8], from: usize, to: usize)
 {
     let end = to.min(picture.len());
     let begin = from.min(end);
-    for clock in begin..end {
-        picture[clock] = 0;
-    }
+    picture[begin..end].fill(0);
 }

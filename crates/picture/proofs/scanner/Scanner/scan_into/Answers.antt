@@ -1,19 +1,19 @@
-use Rattle.std.proofs.Common.{◌≡◌, ℕ, Bool, true, false, cond, ltb, List, ◌++◌, length, drop, Ok, Err, Result, sym, refl, ap, ◌∙◌}
+use Rattle.std.proofs.Common.{◌≡◌, ℕ, Bool, true, false, cond, ltb, List, ◌++◌, map, length, drop, Ok, Err, Result, sym, refl, ap, ◌∙◌}
 use Rattle.std.proofs.lemmas.Bool.{lt-ltb, le-ltb}
 use Rattle.line.specs.declared.refusal.Refusal.{Refusal}
 use Rattle.line.specs.declared.refusal.Refusal.TheVariants.{NotALevel, TooShort}
 use Rattle.ends.specs.BareReceiver.{meant}
-use Rattle.ends.specs.Receiver.{ReceiverState, Entry}
+use Rattle.ends.specs.Receiver.{ReceiverState}
 use Rattle.ends.specs.Runs.{taken_down}
 use Rattle.picture.specs.Scanning.{levels, any_other, piece_answer}
 use Rattle.picture.proofs.Listing.{goes_on}
-use Rattle.picture.proofs.scanner.Scanner.scan.Goals as goal
+use Rattle.picture.proofs.scanner.Scanner.scan_into.Goals as goal
 
 abbrev Answer : Type 0
 Answer = Result ℕ Refusal
 
 pub returns-then-has_other : goal.returns-then-has_other
-returns-then-has_other c =
+returns-then-has_other g c =
     let r : ReceiverState = meant c.args.self.now.receiver in
     let bs = c.args.piece.now in
     let n : ℕ = length (taken_down r (levels bs)) in
@@ -33,7 +33,7 @@ counted r bs room n short levels_only is fits =
     ∙ ap {B = Answer} (λ b. cond b (Err NotALevel) (cond (ltb room (length (taken_down r (levels bs)))) (Err TooShort) (Ok (length (taken_down r (levels bs)))))) levels_only
 
 pub returns-then-entries-found : goal.returns-then-entries-found
-returns-then-entries-found c =
+returns-then-entries-found g c =
     let r : ReceiverState = meant c.args.self.now.receiver in
     let bs = c.args.piece.now in
     let n : c.count-found.result ≡ length (taken_down r (levels bs)) = c.count-found.ensures in
@@ -45,14 +45,14 @@ returns-then-entries-found c =
     }
 
 pub returns : goal.returns
-returns c =
+returns g c =
     let r : ReceiverState = meant c.args.self.now.receiver in
     let bs = c.args.piece.now in
     let n : c.count-found.result ≡ length (taken_down r (levels bs)) = c.count-found.ensures in
     record {
       answer = counted r bs (length c.args.entries.now) c.count-found.result false c.if-has_other.ensures n (sym (le-ltb (length c.args.entries.now) c.count-found.result c.if-entries-found.false));
       entries = c.list.ensures.entries
-          ∙ ap {B = List Entry} (λ m. taken_down r (levels bs) ++ drop m c.args.entries.now) (sym n);
+          ∙ ap (λ (m : ℕ). map g.E.FromEntry.of_entry (taken_down r (levels bs)) ++ drop m c.args.entries.now) (sym n);
       state = c.list.ensures.state;
       pieces = goes_on bs r;
     }
