@@ -15,7 +15,7 @@ use Rattle.line.specs.Formats.{Numbers, parity_number}
 use Rattle.ends.specs.Times.{Times}
 use Rattle.usart.specs.Usart.{usart_times}
 use Rattle.capi.specs.declared.numbers.EndNumbers.{EndNumbers}
-use Rattle.capi.specs.Settings.{then, size_of, address_of, parity_of, stops_of, format_of, end_times}
+use Rattle.capi.specs.Settings.{and_then, size_of, address_of, parity_of, stops_of, format_of, end_times}
 
 size_named : (x : DataBits) (n : ℕ) → data_count x ≡ n → size_of n ≡ Ok x
 size_named Seven n e = sym (ap size_of e)
@@ -37,7 +37,7 @@ stops_named Two n e = sym (ap stops_of e)
 -- the format of four parts
 abbrev made : Result DataBits Refusal → Result Bool Refusal → Result Parity Refusal → Result StopBits Refusal → Result Format Refusal
 made d a p s =
-    then d (λ size. then a (λ address. then p (λ parity. then s (λ stops.
+    and_then d (λ size. and_then a (λ address. and_then p (λ parity. and_then s (λ stops.
     Ok (record { size = size; address = address; parity = parity; stops = stops })))))
 
 pub named : (f : Format) (d a p s : ℕ) → Numbers f d a p s → format_of d a p s ≡ Ok f
@@ -93,14 +93,14 @@ Found = Result Times Refusal
 pub no_format : (e : EndNumbers) → ((f : Format) → Numbers f e.data_bits e.address_bits e.parity e.stop_bits → ⊥) → end_times e ≡ Err OutOfRange
 unfolding end_times
 no_format e none =
-    ap {B = Found} (λ r. then r (λ f. cond (leb 3 e.divider) (Ok (usart_times f e.divider e.modulator)) (Err OutOfRange)))
+    ap {B = Found} (λ r. and_then r (λ f. cond (leb 3 e.divider) (Ok (usart_times f e.divider e.modulator)) (Err OutOfRange)))
     (unnamed e.data_bits e.address_bits e.parity e.stop_bits none)
 
 at_format : (e : EndNumbers) (f : Format) → Numbers f e.data_bits e.address_bits e.parity e.stop_bits
     → end_times e ≡ cond (leb 3 e.divider) (Ok (usart_times f e.divider e.modulator)) (Err OutOfRange)
 unfolding end_times
 at_format e f h =
-    ap {B = Found} (λ r. then r (λ f. cond (leb 3 e.divider) (Ok (usart_times f e.divider e.modulator)) (Err OutOfRange)))
+    ap {B = Found} (λ r. and_then r (λ f. cond (leb 3 e.divider) (Ok (usart_times f e.divider e.modulator)) (Err OutOfRange)))
     (named f e.data_bits e.address_bits e.parity e.stop_bits h)
 
 pub too_small : (e : EndNumbers) (f : Format) → Numbers f e.data_bits e.address_bits e.parity e.stop_bits → e.divider < 3 → end_times e ≡ Err OutOfRange

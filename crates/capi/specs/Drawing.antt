@@ -1,5 +1,5 @@
 -- What a drawing holds, and when a call to draw declines, by an end's plain numbers.
-use Rattle.std.specs.Prelude.{◌≡◌, ℕ, cond, ◌||◌, List, [], length, Ok, Err, Result, nat_lt, slice_index_or}
+use Rattle.std.specs.Prelude.{◌≡◌, ℕ, if◌then◌else◌, ◌||◌, List, [], length, Ok, Err, Result, nat_lt, slice_index_or}
 use Rattle.line.specs.declared.refusal.Refusal.{Refusal}
 use Rattle.line.specs.declared.refusal.Refusal.TheVariants.{TooWide, TooShort}
 use Rattle.line.specs.Levels.{byte_of}
@@ -9,7 +9,7 @@ use Rattle.ends.specs.BareSender.{resting}
 use Rattle.ends.specs.Runs.{after_sends}
 use Rattle.picture.specs.Drawing.{bytes, any_wide}
 use Rattle.capi.specs.declared.numbers.EndNumbers.{EndNumbers}
-use Rattle.capi.specs.Settings.{then, end_times}
+use Rattle.capi.specs.Settings.{and_then, end_times}
 
 -- the frames of some characters as a bare sender with these times sends them, one after the other
 abbrev pub drawn_at : Times → List ℕ → List ℕ
@@ -25,11 +25,11 @@ drawing e cs = drawn_if (end_times e) cs
 -- the number of bytes drawn, or why nothing is: room is the length of the buffer
 abbrev pub draw_at : List ℕ → ℕ → Times → Result ℕ Refusal
 draw_at cs room t =
-    cond (any_wide t.format cs) (Err TooWide)
-    (cond (nat_lt 4096 (length cs) || nat_lt room (length (drawn_at t cs))) (Err TooShort) (Ok (length (drawn_at t cs))))
+    let size = length (drawn_at t cs) in
+    if any_wide t.format cs then Err TooWide else (if nat_lt 4096 (length cs) || nat_lt room size then Err TooShort else Ok size)
 
 abbrev pub draw_result : EndNumbers → List ℕ → ℕ → Result ℕ Refusal
-draw_result e cs room = then (end_times e) (draw_at cs room)
+draw_result e cs room = and_then (end_times e) (draw_at cs room)
 
 -- a sender with these times that has nothing on the line and these characters to send
 abbrev pub loaded : Times → List ℕ → SenderState

@@ -1,5 +1,5 @@
 -- What a scan of a picture lists, and when it declines, by an end's plain numbers.
-use Rattle.std.specs.Prelude.{◌≡◌, ℕ, cond, List, [], map, length, Ok, Err, Result, nat_lt}
+use Rattle.std.specs.Prelude.{◌≡◌, ℕ, if◌then◌else◌, List, [], map, length, Ok, Err, Result, nat_lt}
 use Rattle.line.specs.declared.refusal.Refusal.{Refusal}
 use Rattle.line.specs.declared.refusal.Refusal.TheVariants.{NotALevel, TooShort}
 use Rattle.line.specs.Formats.{Agree}
@@ -13,7 +13,7 @@ use Rattle.picture.specs.Drawing.{bytes}
 use Rattle.picture.specs.Scanning.{levels, any_other}
 use Rattle.capi.specs.declared.numbers.EndNumbers.{EndNumbers}
 use Rattle.capi.specs.declared.numbers.EntryNumbers.{EntryNumbers}
-use Rattle.capi.specs.Settings.{then, end_times}
+use Rattle.capi.specs.Settings.{and_then, end_times}
 
 abbrev pub told_entry : Entry → EntryNumbers
 told_entry e = record { character = e.0; flags = e.1 }
@@ -32,11 +32,11 @@ listing e bs = listed_if (end_times e) bs
 -- how many entries there are, or why none is listed: room is the length of the list
 abbrev pub scan_at : List ℕ → ℕ → Times → Result ℕ Refusal
 scan_at bs room t =
-    cond (any_other bs) (Err NotALevel)
-    (cond (nat_lt room (length (listed_at t bs))) (Err TooShort) (Ok (length (listed_at t bs))))
+    let found = length (listed_at t bs) in
+    if any_other bs then Err NotALevel else (if nat_lt room found then Err TooShort else Ok found)
 
 abbrev pub scan_result : EndNumbers → List ℕ → ℕ → Result ℕ Refusal
-scan_result e bs room = then (end_times e) (scan_at bs room)
+scan_result e bs room = and_then (end_times e) (scan_at bs room)
 
 -- A picture of frames whose bits are sampled while they are held, with any marks between them, is listed as the characters sent, with no flag.
 abbrev pub Recovers : Times → List ℕ → List Entry → Type 0

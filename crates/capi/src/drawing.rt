@@ -4,6 +4,7 @@ ghost use Rattle.capi.specs.Settings.{answer_number, end_times};
 ghost use Rattle.capi.specs.Drawing.{draw_result, drawing, AsSent};
 
 use super::numbers::EndNumbers;
+use super::telling::tell;
 use line::Refusal;
 use picture::draw;
 
@@ -20,13 +21,7 @@ pub extern "C" fn hotskrebi_draw(
     ensures written { MatchResult (draw_result end.now characters.now (length picture.old)) (λ n. written.new ≡ n) (λ _. written.new ≡ written.old) }
     ensures sent { IfOk (end_times end.now) (λ t. AsSent t characters.now) }
 {
-    match draw_at(end, characters, picture) {
-        Ok(size) => {
-            *written = size;
-            0
-        }
-        Err(refusal) => refusal.number(),
-    }
+    tell(draw_at(end, characters, picture), written)
 }
 
 fn draw_at(end: &EndNumbers, characters: &[u16], picture: &mut [u8]) -> Result<usize, Refusal>
@@ -34,6 +29,5 @@ fn draw_at(end: &EndNumbers, characters: &[u16], picture: &mut [u8]) -> Result<u
     ensures picture { MatchResult result (λ n. picture.new ≡ drawing end.now characters.now ++ drop n picture.old) (λ _. picture.new ≡ picture.old) }
     ensures sent { IfOk (end_times end.now) (λ t. AsSent t characters.now) }
 {
-    let timing = end.timing()?;
-    draw(&timing, characters, picture)
+    draw(&end.timing()?, characters, picture)
 }

@@ -4,7 +4,8 @@ ghost use Rattle.capi.specs.Settings.{answer_number};
 ghost use Rattle.capi.specs.Fitting.{fit_result, told_verdict, Exactly, Delivering};
 
 use super::numbers::{EndNumbers, VerdictNumbers};
-use ends::{BareReceiver, BareSender};
+use super::settings::bare_ends;
+use super::telling::tell;
 use line::Refusal;
 use link::{Rates, Verdict, fit};
 
@@ -22,40 +23,31 @@ pub extern "C" fn hotskrebi_fit(
     ensures exactly { Exactly sender.now receiver.now send_rate receive_rate (fit_result sender.now receiver.now send_rate receive_rate) }
     ensures delivers { Delivering sender.now receiver.now send_rate receive_rate (fit_result sender.now receiver.now send_rate receive_rate) }
 {
-    match fit_at(sender, receiver, send_rate, receive_rate) {
-        Ok(found) => {
-            *verdict = numbers_of(found);
-            0
-        }
-        Err(refusal) => refusal.number(),
-    }
-}
-
-fn fit_at(
-    sender: &EndNumbers,
-    receiver: &EndNumbers,
-    send_rate: u32,
-    receive_rate: u32,
-) -> Result<Verdict, Refusal>
-    ensures answer { result ≡ fit_result sender.now receiver.now send_rate receive_rate }
-    ensures exactly { Exactly sender.now receiver.now send_rate receive_rate result }
-    ensures delivers { Delivering sender.now receiver.now send_rate receive_rate result }
-{
-    let sends = BareSender::new(sender.timing()?);
-    let receives = BareReceiver::new(receiver.timing()?);
     let rates = Rates {
         send: send_rate,
         receive: receive_rate,
     };
+    let answer = fit_at(sender, receiver, rates).map(|found| VerdictNumbers::from(found));
+    tell(answer, verdict)
+}
+
+fn fit_at(sender: &EndNumbers, receiver: &EndNumbers, rates: Rates) -> Result<Verdict, Refusal>
+    ensures answer { result ≡ fit_result sender.now receiver.now rates.send rates.receive }
+    ensures exactly { Exactly sender.now receiver.now rates.send rates.receive result }
+    ensures delivers { Delivering sender.now receiver.now rates.send rates.receive result }
+{
+    let (sends, receives) = bare_ends(sender, receiver)?;
     fit(&sends, &receives, rates)
 }
 
-fn numbers_of(verdict: Verdict) -> VerdictNumbers
-    ensures { result ≡ told_verdict verdict }
-{
-    match verdict {
-        Verdict::Passes => VerdictNumbers { verdict: 0, bit: 0 },
-        Verdict::Early(bit) => VerdictNumbers { verdict: 1, bit },
-        Verdict::Late(bit) => VerdictNumbers { verdict: 2, bit },
+impl From<Verdict> for VerdictNumbers {
+    ghost from_gives = { λ verdict numbers. numbers ≡ told_verdict verdict };
+
+    fn from(verdict: Verdict) -> VerdictNumbers {
+        match verdict {
+            Verdict::Passes => VerdictNumbers { verdict: 0, bit: 0 },
+            Verdict::Early(bit) => VerdictNumbers { verdict: 1, bit },
+            Verdict::Late(bit) => VerdictNumbers { verdict: 2, bit },
+        }
     }
 }

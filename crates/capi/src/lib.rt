@@ -8,6 +8,7 @@ pub mod numbers;
 pub mod running;
 pub mod scanning;
 pub mod settings;
+pub mod telling;
 pub mod translating;
 
 pub use drawing::hotskrebi_draw;

@@ -1,4 +1,5 @@
-// What crosses to programs in other languages: structs of plain numbers, any of which may be out of range.
+// What crosses to programs in other languages: structs of plain numbers, any of which may be out of range. C has no enum with
+// fields, so kinds and verdicts are numbers here, and turn into enums where they come in.
 
 // A USART's settings, and its format.
 #[repr(C)]

@@ -1,17 +1,19 @@
 // Runs of a link for programs in other languages.
 ghost use Rattle.std.specs.Prelude.{◌≡◌, ◌≤◌, ◌++◌, map, length, drop, IfOk, MatchResult};
-ghost use Rattle.link.specs.Link.{after};
-ghost use Rattle.link.specs.Acts.{link_of};
+ghost use Rattle.link.specs.Link.{after_act};
+ghost use Rattle.link.specs.Acts.{link_of, answer};
 ghost use Rattle.link.specs.Delivery.{Delivers};
 ghost use Rattle.capi.specs.Settings.{answer_number};
-ghost use Rattle.capi.specs.Translating.{act_of};
+ghost use Rattle.capi.specs.Translating.{act_of, act_check, acts_check, told_answer};
 ghost use Rattle.capi.specs.Running.{told_answers, joined, joined_queued, run_result, run_at, answers_at};
 
 use super::numbers::{ActNumbers, AnswerNumbers, EndNumbers};
-use super::translating::{check_all, numbers_of};
-use ends::{BareReceiver, BareSender, Receiver, Sender};
+use super::settings::bare_ends;
+use super::telling::answer_number;
+use super::translating::check_all;
+use ends::{Receiver, Sender};
 use line::Refusal;
-use link::Link;
+use link::{Act, Link};
 use queue::{ReceiveQueue, SendQueue};
 
 // Joins two ends and does the acts one after the other; writes down what each answers.
@@ -26,10 +28,7 @@ pub extern "C" fn hotskrebi_run(
     ensures answers { MatchResult (run_result (joined sender.now receiver.now) acts.now (length answers.old)) (λ n. answers.new ≡ answers_at (joined sender.now receiver.now) acts.now ++ drop n answers.old) (λ _. answers.new ≡ answers.old) }
     ensures delivers { IfOk (joined sender.now receiver.now) (λ m. Delivers m (map act_of acts.now)) }
 {
-    match run_bare(sender, receiver, acts, answers) {
-        Ok(_) => 0,
-        Err(refusal) => refusal.number(),
-    }
+    answer_number(run_bare(sender, receiver, acts, answers))
 }
 
 fn run_bare(
@@ -41,10 +40,8 @@ fn run_bare(
     ensures answer { result ≡ run_result (joined sender.now receiver.now) acts.now (length answers.old) }
     ensures answers { MatchResult result (λ n. answers.new ≡ answers_at (joined sender.now receiver.now) acts.now ++ drop n answers.old) (λ _. answers.new ≡ answers.old) }
 {
-    let sends = BareSender::new(sender.timing()?);
-    let receives = BareReceiver::new(receiver.timing()?);
-    let mut link = Link::join(sends, receives);
-    run(&mut link, acts, answers)
+    let (sends, receives) = bare_ends(sender, receiver)?;
+    run(&mut Link::join(sends, receives), acts, answers)
 }
 
 // The same with a queue in front of the sender and one behind the receiver.
@@ -59,10 +56,7 @@ pub extern "C" fn hotskrebi_run_queued(
     ensures answers { MatchResult (run_result (joined_queued sender.now receiver.now) acts.now (length answers.old)) (λ n. answers.new ≡ answers_at (joined_queued sender.now receiver.now) acts.now ++ drop n answers.old) (λ _. answers.new ≡ answers.old) }
     ensures delivers { IfOk (joined_queued sender.now receiver.now) (λ m. Delivers m (map act_of acts.now)) }
 {
-    match run_queued(sender, receiver, acts, answers) {
-        Ok(_) => 0,
-        Err(refusal) => refusal.number(),
-    }
+    answer_number(run_queued(sender, receiver, acts, answers))
 }
 
 fn run_queued(
@@ -74,9 +68,8 @@ fn run_queued(
     ensures answer { result ≡ run_result (joined_queued sender.now receiver.now) acts.now (length answers.old) }
     ensures answers { MatchResult result (λ n. answers.new ≡ answers_at (joined_queued sender.now receiver.now) acts.now ++ drop n answers.old) (λ _. answers.new ≡ answers.old) }
 {
-    let sends = SendQueue::new(BareSender::new(sender.timing()?));
-    let receives = ReceiveQueue::new(BareReceiver::new(receiver.timing()?));
-    let mut link = Link::join(sends, receives);
+    let (sends, receives) = bare_ends(sender, receiver)?;
+    let mut link = Link::join(SendQueue::new(sends), ReceiveQueue::new(receives));
     run(&mut link, acts, answers)
 }
 
@@ -102,10 +95,22 @@ fn do_all<S: Sender, R: Receiver>(
     acts: &[ActNumbers],
     answers: &mut [AnswerNumbers],
 )
-    requires { length acts.now ≤ length answers.old }
+    requires room { length acts.now ≤ length answers.old }
+    requires checked { acts_check acts.now ≡ Ok tt }
     ensures { answers.new ≡ told_answers (link_of S.Sender.meaning R.Receiver.meaning link.old) acts.now ++ drop (length acts.now) answers.old }
 {
     for (i, act) in acts.iter().enumerate() {
-        answers[i] = numbers_of(link.act(act.act()));
+        answers[i] = do_one(link, *act);
+    }
+}
+
+fn do_one<S: Sender, R: Receiver>(link: &mut Link<S, R>, act: ActNumbers) -> AnswerNumbers
+    requires { act_check act ≡ Ok tt }
+    ensures answer { result ≡ told_answer (answer (link_of S.Sender.meaning R.Receiver.meaning link.old) (act_of act)) }
+    ensures state { link_of S.Sender.meaning R.Receiver.meaning link.new ≡ after_act (link_of S.Sender.meaning R.Receiver.meaning link.old) (act_of act) }
+{
+    match Act::try_from(act) {
+        Ok(act) => AnswerNumbers::from(link.act(act)),
+        Err(refusal) => AnswerNumbers::from(Err(refusal)),
     }
 }

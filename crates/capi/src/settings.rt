@@ -1,10 +1,10 @@
-// The times of an end that is given as plain numbers.
+// Ends that are given as plain numbers.
 ghost use Rattle.std.specs.Prelude.{◌≡◌};
 ghost use Rattle.ends.specs.Timed.{answered};
-ghost use Rattle.capi.specs.Settings.{end_times};
+ghost use Rattle.capi.specs.Settings.{end_times, bare_states, ends_at};
 
 use super::numbers::EndNumbers;
-use ends::{Kind, Timing};
+use ends::{BareReceiver, BareSender, Kind, Timing};
 use line::{Format, Refusal};
 use usart::{Settings, Usart};
 
@@ -21,4 +21,16 @@ impl EndNumbers {
         let settings = Settings::new(self.divider, self.modulator)?;
         Usart::timing(format, settings)
     }
+}
+
+// A bare sender and a bare receiver with these numbers.
+pub(crate) fn bare_ends(
+    sender: &EndNumbers,
+    receiver: &EndNumbers,
+) -> Result<(BareSender, BareReceiver), Refusal>
+    ensures { bare_states result ≡ ends_at sender.now receiver.now }
+{
+    let sends = BareSender::new(sender.timing()?);
+    let receives = BareReceiver::new(receiver.timing()?);
+    Ok((sends, receives))
 }

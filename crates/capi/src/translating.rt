@@ -1,12 +1,12 @@
 // Acts and answers of a link to and from plain numbers.
 ghost use Rattle.std.specs.Prelude.{◌≡◌};
-ghost use Rattle.line.specs.Levels.{level_of};
-ghost use Rattle.capi.specs.Translating.{act_check, act_of, told_answer, acts_check};
+ghost use Rattle.capi.specs.Translating.{act_told, told_answer, acts_check};
 
 use super::numbers::{ActNumbers, AnswerNumbers};
 use line::{Level, Refusal};
 use link::{Act, Answer};
 
+// the numbers by which C knows the kinds of acts
 const LOAD: u8 = 0;
 
 const SEND: u8 = 1;
@@ -17,41 +17,22 @@ const NOISE: u8 = 3;
 
 const READ: u8 = 4;
 
-impl ActNumbers {
-    // Declines an act of no kind, and noise that is no level.
-    fn check(self) -> Result<(), Refusal>
-        ensures { result ≡ act_check self }
-    {
-        if self.kind > READ {
-            return Err(Refusal::OutOfRange);
-        }
-        if self.kind == NOISE && self.value > 1 {
-            return Err(Refusal::NotALevel);
-        }
-        Ok(())
-    }
+// Declines an act of no kind, and noise that is no level.
+impl TryFrom<ActNumbers> for Act {
+    type Error = Refusal;
 
-    // What the numbers mean, where the check does not decline them.
-    pub(crate) fn act(self) -> Act
-        ensures { result ≡ act_of self }
-    {
-        match self.kind {
-            LOAD => Act::Load(self.value),
-            SEND => Act::Send,
-            RECEIVE => Act::Receive,
-            NOISE => Act::Noise(level(self.value)),
-            _ => Act::Read,
-        }
-    }
-}
+    ghost try_from_gives = { λ numbers result. result ≡ act_told numbers };
 
-fn level(value: u16) -> Level
-    ensures { result ≡ level_of value }
-{
-    if value == 0 {
-        Level::Space
-    } else {
-        Level::Mark
+    fn try_from(numbers: ActNumbers) -> Result<Act, Refusal> {
+        match numbers.kind {
+            LOAD => Ok(Act::Load(numbers.value)),
+            SEND => Ok(Act::Send),
+            RECEIVE => Ok(Act::Receive),
+            NOISE if numbers.value > 1 => Err(Refusal::NotALevel),
+            NOISE => Ok(Act::Noise(Level::from_digit(numbers.value))),
+            READ => Ok(Act::Read),
+            _ => Err(Refusal::OutOfRange),
+        }
     }
 }
 
@@ -60,34 +41,21 @@ pub(crate) fn check_all(acts: &[ActNumbers]) -> Result<(), Refusal>
     ensures { result ≡ acts_check acts.now }
 {
     for act in acts {
-        act.check()?;
+        Act::try_from(*act)?;
     }
     Ok(())
 }
 
-pub(crate) fn numbers_of(answer: Result<Answer, Refusal>) -> AnswerNumbers
-    ensures { result ≡ told_answer answer }
-{
-    match answer {
-        Ok(Answer::Done) => AnswerNumbers {
-            kind: 0,
-            flags: 0,
-            value: 0,
-        },
-        Ok(Answer::Line(level)) => AnswerNumbers {
-            kind: 1,
-            flags: 0,
-            value: u16::from(level.byte()),
-        },
-        Ok(Answer::Entry(character, flags)) => AnswerNumbers {
-            kind: 2,
-            flags,
-            value: character,
-        },
-        Err(refusal) => AnswerNumbers {
-            kind: 3,
-            flags: 0,
-            value: u16::from(refusal.number()),
-        },
+impl From<Result<Answer, Refusal>> for AnswerNumbers {
+    ghost from_gives = { λ answer numbers. numbers ≡ told_answer answer };
+
+    fn from(answer: Result<Answer, Refusal>) -> AnswerNumbers {
+        let (kind, flags, value) = match answer {
+            Ok(Answer::Done) => (0, 0, 0),
+            Ok(Answer::Line(level)) => (1, 0, u16::from(u8::from(level))),
+            Ok(Answer::Entry(character, flags)) => (2, flags, character),
+            Err(refusal) => (3, 0, u16::from(u8::from(refusal))),
+        };
+        AnswerNumbers { kind, flags, value }
     }
 }
