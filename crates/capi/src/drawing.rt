@@ -1,7 +1,8 @@
 // Drawing for programs in other languages.
 ghost use Rattle.std.specs.Prelude.{◌≡◌, ◌++◌, length, drop, IfOk, MatchResult};
+ghost use Rattle.picture.specs.Drawing.{AsSentAt};
 ghost use Rattle.capi.specs.Settings.{answer_number, end_times};
-ghost use Rattle.capi.specs.Drawing.{draw_result, drawing, AsSent};
+ghost use Rattle.capi.specs.Drawing.{draw_result, drawing};
 
 use super::numbers::EndNumbers;
 use super::telling::tell;
@@ -19,7 +20,7 @@ pub extern "C" fn hotskrebi_draw(
     ensures answer { result ≡ answer_number (draw_result end.now characters.now (length picture.old)) }
     ensures picture { MatchResult (draw_result end.now characters.now (length picture.old)) (λ n. picture.new ≡ drawing end.now characters.now ++ drop n picture.old) (λ _. picture.new ≡ picture.old) }
     ensures written { MatchResult (draw_result end.now characters.now (length picture.old)) (λ n. written.new ≡ n) (λ _. written.new ≡ written.old) }
-    ensures sent { IfOk (end_times end.now) (λ t. AsSent t characters.now) }
+    ensures sent { IfOk (end_times end.now) (λ t. AsSentAt t characters.now) }
 {
     tell(draw_at(end, characters, picture), written)
 }
@@ -27,7 +28,7 @@ pub extern "C" fn hotskrebi_draw(
 fn draw_at(end: &EndNumbers, characters: &[u16], picture: &mut [u8]) -> Result<usize, Refusal>
     ensures answer { result ≡ draw_result end.now characters.now (length picture.old) }
     ensures picture { MatchResult result (λ n. picture.new ≡ drawing end.now characters.now ++ drop n picture.old) (λ _. picture.new ≡ picture.old) }
-    ensures sent { IfOk (end_times end.now) (λ t. AsSent t characters.now) }
+    ensures sent { IfOk (end_times end.now) (λ t. AsSentAt t characters.now) }
 {
     draw(&end.timing()?, characters, picture)
 }

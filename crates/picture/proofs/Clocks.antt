@@ -14,6 +14,7 @@ use Rattle.line.proofs.Digits.{low_number}
 use Rattle.line.proofs.Bits.{frame_length, frame_fits}
 use Rattle.ends.specs.declared.timing.Timing.{Timing}
 use Rattle.ends.specs.Times.{sum, start_of, held}
+use Rattle.ends.specs.Timed.{times_of}
 use Rattle.ends.specs.Sender.{frames, frame_levels}
 use Rattle.ends.specs.BareSender.{at_rest}
 use Rattle.ends.proofs.Held.{held_length}
@@ -100,11 +101,11 @@ past_last t k d h =
     let none : frame_bits t.format - k ≡ 0 = omega arith in
     ap {B = List ℕ} (λ m. bytes (held (drop k t.lengths) (low_bits m d))) none ∙ ap {A = List Level} (map byte_of) (held_none (drop k t.lengths))
 
-begun : (t : Timing) (cs : List ℕ) (c : ℕ) → Begun (frame_levels (loaded t cs) c)
+begun : (t : Timing) (cs : List ℕ) (c : ℕ) → Begun (frame_levels (loaded (times_of t) cs) c)
 begun t cs c = frame_begun (at_rest t) (sound_rest t) c
 
 -- what is drawn is what a sender's clocks answer
 pub as_sent : (t : Timing) (cs : List ℕ) → AsSent t cs
 as_sent t cs k =
-    ap byte_of ((sends (loaded t cs) (begun t cs) k).level ∙ ap (λ (l : List Level). get_or l k Mark) (frames_held (at_rest t) [] cs cs))
+    ap byte_of ((sends (loaded (times_of t) cs) (begun t cs) k).level ∙ ap (λ (l : List Level). get_or l k Mark) (frames_held (at_rest t) [] cs cs))
     ∙ sym (get_or-map byte_of (frames (at_rest t) cs) k Mark)

@@ -8,11 +8,11 @@ use Rattle.line.specs.Formats.{Agree}
 use Rattle.line.specs.Frames.{first_stop}
 use Rattle.line.specs.Levels.{level_of}
 use Rattle.ends.specs.declared.timing.Timing.{Timing}
-use Rattle.ends.specs.Times.{Inside}
+use Rattle.ends.specs.Times.{Times, Inside}
 use Rattle.ends.specs.Sender.{SenderState, SoundSender}
 use Rattle.ends.specs.Receiver.{ReceiverState, Entry, after_clock, after_read}
-use Rattle.ends.specs.BareReceiver.{at_rest}
-use Rattle.ends.specs.Timed.{sample_clocks}
+use Rattle.ends.specs.BareReceiver.{resting}
+use Rattle.ends.specs.Timed.{times_of}
 use Rattle.ends.specs.Runs.{taken_down, Sent, transmission, AllNarrow, clean}
 use Rattle.picture.specs.Drawing.{bytes}
 
@@ -24,9 +24,12 @@ levels bs = map level_of bs
 abbrev pub any_other : List ℕ → Bool
 any_other bs = list_any (nat_lt 1) bs
 
--- every entry that arrives at a new bare receiver that is given the picture, each read as it arrives
+-- every entry that arrives at a new bare receiver with these times that is given the picture, each read as it arrives
+abbrev pub listed_at : Times → List ℕ → List Entry
+listed_at t bs = taken_down (resting t) (levels bs)
+
 abbrev pub listed : Timing → List ℕ → List Entry
-listed t bs = taken_down (at_rest t) (levels bs)
+listed t bs = listed_at (times_of t) bs
 
 -- how many entries arrive at a receiver with some bytes, or why none is listed: room is the length of the list
 abbrev pub piece_answer : ReceiverState → List ℕ → ℕ → Result ℕ Refusal
@@ -34,11 +37,12 @@ piece_answer r bs room =
     let found = length (taken_down r (levels bs)) in
     if any_other bs then Err NotALevel else (if nat_lt room found then Err TooShort else Ok found)
 
--- how many entries there are, or why none is listed: room is the length of the list
+-- the same of a new bare receiver, which is given a whole picture
+abbrev pub scan_at : List ℕ → ℕ → Times → Result ℕ Refusal
+scan_at bs room t = piece_answer (resting t) bs room
+
 abbrev pub scan_answer : Timing → List ℕ → ℕ → Result ℕ Refusal
-scan_answer t bs room =
-    let found = length (listed t bs) in
-    if any_other bs then Err NotALevel else (if nat_lt room found then Err TooShort else Ok found)
+scan_answer t bs room = scan_at bs room (times_of t)
 
 -- the receiver after some levels, each entry read as it arrives
 abbrev pub after_listed : ReceiverState → List Level → ReceiverState
@@ -50,6 +54,9 @@ abbrev pub GoesOn : ReceiverState → List ℕ → Type 0
 GoesOn r bs = (more : List ℕ) → taken_down r (levels (bs ++ more)) ≡ taken_down r (levels bs) ++ taken_down (after_listed r (levels bs)) (levels more)
 
 -- A picture of frames whose bits are sampled while they are held, with any marks between them, is listed as the characters sent, with no flag.
-abbrev pub Recovers : Timing → List ℕ → List Entry → Type 0
-Recovers t bs es = (s : SenderState) → SoundSender s → Agree s.format t.format → Inside s.lengths (sample_clocks t) (first_stop t.format)
+abbrev pub RecoversAt : Times → List ℕ → List Entry → Type 0
+RecoversAt t bs es = (s : SenderState) → SoundSender s → Agree s.format t.format → Inside s.lengths t.samples (first_stop t.format)
     → (xs : List Sent) (m : ℕ) → AllNarrow t.format xs → bs ≡ bytes (transmission s xs m) → es ≡ clean xs
+
+abbrev pub Recovers : Timing → List ℕ → List Entry → Type 0
+Recovers t bs es = RecoversAt (times_of t) bs es

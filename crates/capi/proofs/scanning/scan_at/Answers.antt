@@ -3,8 +3,9 @@ use Rattle.std.proofs.Common.{◌≡◌, ℕ, ◌++◌, length, drop, Result, ap
 use Rattle.line.specs.declared.refusal.Refusal.{Refusal}
 use Rattle.ends.specs.Times.{Times}
 use Rattle.ends.specs.Timed.{times_of}
+use Rattle.picture.specs.Scanning.{listed_at, scan_at, RecoversAt}
 use Rattle.capi.specs.Settings.{and_then, end_times}
-use Rattle.capi.specs.Scanning.{listed_at, listed_if, scan_at, Recovers}
+use Rattle.capi.specs.Scanning.{listed_if}
 use Rattle.capi.proofs.Formats.{of_one}
 use Rattle.capi.proofs.scanning.scan_at.Goals as goal
 
@@ -16,5 +17,5 @@ returns c =
     record {
       answer = c.scan_into.ensures.answer ∙ ap {B = Result ℕ Refusal} (λ (x : Result Times Refusal). and_then x (scan_at bs (length old))) known;
       entries = subst (λ (x : Result Times Refusal). MatchResult c.scan_into.result (λ n. c.scan_into.new.entries ≡ listed_if x bs ++ drop n old) (λ e. c.scan_into.new.entries ≡ old)) known c.scan_into.ensures.entries;
-      recovers = of_one (λ x. Recovers x bs (listed_at x bs)) (end_times c.args.end.now) (times_of c.in_ok-timing.field-0) known c.scan_into.ensures.recovers;
+      recovers = of_one (λ x. RecoversAt x bs (listed_at x bs)) (end_times c.args.end.now) (times_of c.in_ok-timing.field-0) known c.scan_into.ensures.recovers;
     }
