@@ -99,6 +99,7 @@ fn do_all<S: Sender, R: Receiver>(
     requires checked { acts_check acts.now ≡ Ok tt }
     ensures { answers.new ≡ told_answers (link_of S.Sender.meaning R.Receiver.meaning link.old) acts.now ++ drop (length acts.now) answers.old }
 {
+    // by index: of what is written through `answers.iter_mut().zip(acts)` the proof learns the length alone
     for (i, act) in acts.iter().enumerate() {
         answers[i] = do_one(link, *act);
     }

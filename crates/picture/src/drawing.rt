@@ -25,6 +25,7 @@ pub fn draw(timing: &Timing, characters: &[u16], picture: &mut [u8]) -> Result<u
     if picture.len() < size {
         return Err(Refusal::TooShort);
     }
+    // each frame goes into the lent rest: of what is written into `chunks_exact_mut` the proof learns the length alone
     for (i, character) in characters.iter().enumerate() {
         draw_frame(timing, *character, &mut picture[i * clocks..]);
     }

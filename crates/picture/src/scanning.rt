@@ -88,7 +88,7 @@ impl Scanner {
         self.receiver.read().ok()
     }
 
-    // How many entries arrive.
+    // How many entries arrive. Counted by hand: of a chain whose closure steps the scanner, the proof learns nothing of the entries.
     fn count(mut self, piece: &[u8]) -> usize
         ensures { result ≡ length (taken_down (meant self.receiver) (levels piece.now)) }
     {
@@ -101,6 +101,8 @@ impl Scanner {
         found
     }
 
+    // Only some bytes bring an entry, so the next place is counted by hand: of places taken from `iter_mut` one by one, the proof
+    // doesn't learn what was written.
     fn list<E: FromEntry + Copy>(&mut self, piece: &[u8], entries: &mut [E])
         requires { length (taken_down (meant self.old.receiver) (levels piece.now)) ≤ length entries.old }
         ensures entries { entries.new ≡ map E.of_entry (taken_down (meant self.old.receiver) (levels piece.now)) ++ drop (length (taken_down (meant self.old.receiver) (levels piece.now))) entries.old }
