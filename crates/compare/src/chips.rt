@@ -79,7 +79,7 @@ fn by_library(heap: Global, steps: &[Step]) -> Result<Vec<Answer>, AllocError> {
     for step in steps {
         answers.push(match *step {
             Step::Write { address, value } => chip.write(address, value).map(|_| Said::Done),
-            Step::Read { address } => chip.read(address).map(|value| Said::Byte(value)),
+            Step::Read { address } => chip.read(address).map(Said::Byte),
             Step::Clock { level } => Ok(Said::Line(chip.clock(level))),
             Step::Poll => {
                 let flags = chip.interrupts();

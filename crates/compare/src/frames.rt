@@ -53,7 +53,7 @@ impl fmt::Display for Framed {
 
 pub fn compare_frames(rt: &impl Print) -> io::Result<Tally> {
     let mut tally = Tally::default();
-    for shape in (0..24).map(|number| Shape::numbered(number)) {
+    for shape in (0..24).map(Shape::numbered) {
         for character in 0..shape.characters() {
             tally.count(rt, &Framed::run(shape, character))?;
         }
