@@ -34,7 +34,7 @@ impl Dice {
 
     // One of these numbers, or 0 where there is none.
     pub fn one_of(&mut self, choices: &[u16]) -> u16 {
-        let count = choices.len().min(1000) as u16;
+        let count = u16::try_from(choices.len()).unwrap_or(u16::MAX);
         let place = usize::from(self.below(count));
         choices.get(place).copied().unwrap_or(0)
     }

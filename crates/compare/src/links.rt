@@ -117,12 +117,14 @@ fn by_times(heap: Global, setup: &Setup, acts: &[Act]) -> Result<Vec<Answer>, Al
     Ok(answers)
 }
 
-fn told(answer: Result<link::Answer, Refusal>) -> Answer {
-    Ok(match answer? {
-        link::Answer::Done => Said::Done,
-        link::Answer::Line(level) => Said::Line(level),
-        link::Answer::Entry(character, flags) => Said::Entry(Entry { character, flags }),
-    })
+impl From<link::Answer> for Said {
+    fn from(answer: link::Answer) -> Said {
+        match answer {
+            link::Answer::Done => Said::Done,
+            link::Answer::Line(level) => Said::Line(level),
+            link::Answer::Entry(character, flags) => Said::Entry(Entry { character, flags }),
+        }
+    }
 }
 
 // The first half of the acts in one call, the others one by one.
@@ -138,10 +140,10 @@ fn answered<S: Sender + Drop, R: Receiver + Drop>(
     let _ = link.run(first, answers.as_mut_slice());
     let mut all = answers
         .iter()
-        .map(|answer| told(*answer))
+        .map(|answer| answer.map(Said::from))
         .collect::<Vec<Answer>>(heap)?;
     for act in others {
-        all.push(told(link.act(*act)))?;
+        all.push(link.act(*act).map(Said::from))?;
     }
     Ok(all)
 }

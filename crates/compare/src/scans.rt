@@ -34,7 +34,7 @@ fn spoil(picture: &mut [u8], dice: &mut Dice, longest: u16) {
     for _ in 0..dice.below(5).saturating_add(1) {
         let first = dice.below(length) as usize;
         let run = dice.below(longest) as usize;
-        let level = if dice.one_in(2) { 0 } else { 1 };
+        let level = u8::from(!dice.one_in(2));
         for byte in picture.iter_mut().skip(first).take(run) {
             *byte = level;
         }
