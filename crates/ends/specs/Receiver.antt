@@ -1,5 +1,5 @@
 -- What any receiver means: what is fixed of it, what it holds, and what a clock and a read do.
-use Rattle.std.specs.Prelude.{◌≡◌, ℕ, pred, ◌+◌, ◌-◌, ◌*◌, ◌<◌, ◌≤◌, Bool, true, false, cond, List, [], ◌∷◌, ◌++◌, length, take, drop, replicate, Ok, Err, Result, ◌==◌, bit_or, nat_le, nat_lt, slice_index}
+use Rattle.std.specs.Prelude.{◌≡◌, ℕ, pred, ◌+◌, ◌-◌, ◌*◌, ◌<◌, ◌≤◌, Bool, true, false, if◌then◌else◌, List, [], ◌∷◌, ◌++◌, length, take, drop, replicate, Ok, Err, Result, ◌==◌, bit_or, nat_le, nat_lt, slice_index}
 use Rattle.line.specs.declared.level.Level.{Level}
 use Rattle.line.specs.declared.level.Level.TheVariants.{Space, Mark}
 use Rattle.line.specs.declared.format.Format.{Format}
@@ -54,12 +54,12 @@ last_sample r = third_sample r (first_stop r.format)
 -- how many samples of a frame fall on its clock n
 abbrev pub falling_on : ℕ → List ℕ → ℕ
 falling_on n [] = 0
-falling_on n (s ∷ ss) = cond (s == n) (1 + falling_on n ss) (falling_on n ss)
+falling_on n (s ∷ ss) = if s == n then 1 + falling_on n ss else falling_on n ss
 
 -- how many fall before clock n
 abbrev pub falling_before : ℕ → List ℕ → ℕ
 falling_before n [] = 0
-falling_before n (s ∷ ss) = cond (nat_lt s n) (1 + falling_before n ss) (falling_before n ss)
+falling_before n (s ∷ ss) = if nat_lt s n then 1 + falling_before n ss else falling_before n ss
 
 abbrev pub majority : Level → Level → Level → Level
 majority Mark Mark c = Mark
@@ -94,12 +94,12 @@ abbrev pub entry_of : Format → List Level → Entry
 entry_of f bs =
     let body : List Level = take (width f) (drop 1 bs) in
     let check : List Level = take (first_stop f - (1 + width f)) (drop (1 + width f) bs) in
-    (number body, cond (same_levels check (parity_bits f.parity body)) 0 2 + framing_flag (drop (first_stop f) bs))
+    (number body, (if same_levels check (parity_bits f.parity body) then 0 else 2) + framing_flag (drop (first_stop f) bs))
 
 -- an entry joins the unread ones; where they fill the capacity it takes the place of the newest, with that one's flags and the overrun flag as well
 abbrev pub joined : ℕ → List Entry → Entry → List Entry
 joined room [] e = e ∷ []
-joined room (u ∷ []) e = cond (nat_le room 1) ((e.0, bit_or (bit_or e.1 u.1) 1) ∷ []) (u ∷ (e ∷ []))
+joined room (u ∷ []) e = if nat_le room 1 then (e.0, bit_or (bit_or e.1 u.1) 1) ∷ [] else u ∷ (e ∷ [])
 joined room (u ∷ (v ∷ us)) e = u ∷ joined (pred room) (v ∷ us) e
 
 -- the receiver with other unread entries, another previous level and something else to do
@@ -124,7 +124,7 @@ nothing d = record { doing = d; arrived = [] }
 
 -- after a framing fault spaces are counted
 abbrev pub after_frame : Entry → Doing
-after_frame e = cond (nat_lt e.1 4) idle (counting 0)
+after_frame e = if nat_lt e.1 4 then idle else counting 0
 
 -- a frame goes on, unless its start bit was decided as mark
 abbrev pub going_on : List Level → ℕ → List Level → Doing
@@ -140,9 +140,9 @@ taken_now samples n ls l = ls ++ replicate (falling_on n samples) l
 abbrev pub heard_in_frame : Format → ℕ → List Level → Heard
 heard_in_frame f n ls =
     let bs : List Level = decided ls in
-    cond (nat_le (1 + first_stop f) (length bs))
-    (record { doing = after_frame (entry_of f bs); arrived = entry_of f bs ∷ [] })
-    (nothing (going_on bs n ls))
+    if nat_le (1 + first_stop f) (length bs)
+    then record { doing = after_frame (entry_of f bs); arrived = entry_of f bs ∷ [] }
+    else nothing (going_on bs n ls)
 
 abbrev pub heard : ReceiverState → Level → Doing → Level → Heard
 heard r Mark idle Space = heard_in_frame r.format 0 (taken_now r.samples 0 [] Space)
@@ -152,7 +152,7 @@ heard r p (framing n ls) l = heard_in_frame r.format (n + 1) (taken_now r.sample
 heard r p (counting n) Mark = nothing idle
 heard r Mark (counting n) Space = heard_in_frame r.format 0 (taken_now r.samples 0 [] Space)
 heard r Space (counting n) Space =
-    cond (nat_le r.break_length (n + 1)) (record { doing = idle; arrived = (0, 8) ∷ [] }) (nothing (counting (n + 1)))
+    if nat_le r.break_length (n + 1) then record { doing = idle; arrived = (0, 8) ∷ [] } else nothing (counting (n + 1))
 
 abbrev pub hears : ReceiverState → Level → Heard
 hears r l = heard r r.previous r.doing l

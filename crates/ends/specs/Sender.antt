@@ -1,5 +1,5 @@
 -- What any sender means: what is fixed of it, what it holds, and what a load and a clock do.
-use Rattle.std.specs.Prelude.{◌≡◌, ℕ, ◌^◌, ◌<◌, ◌≤◌, Bool, true, false, cond, List, [], ◌∷◌, ◌++◌, length, Ok, Err, Result, ◌==◌, nat_le, slice_index}
+use Rattle.std.specs.Prelude.{◌≡◌, ℕ, ◌^◌, ◌<◌, ◌≤◌, Bool, true, false, if◌then◌else◌, List, [], ◌∷◌, ◌++◌, length, Ok, Err, Result, ◌==◌, nat_le, slice_index}
 use Rattle.line.specs.declared.level.Level.{Level}
 use Rattle.line.specs.declared.level.Level.TheVariants.{Mark}
 use Rattle.line.specs.declared.format.Format.{Format}
@@ -43,15 +43,16 @@ holding s l w = record { format = s.format; lengths = s.lengths; capacity = s.ca
 
 abbrev pub load_answer : SenderState → ℕ → Result Unit Refusal
 load_answer s c =
-    cond (nat_le (2 ^ width s.format) c) (Err TooWide)
-    (cond (length s.waiting == s.capacity) (Err Full) (Ok tt))
+    if nat_le (2 ^ width s.format) c then Err TooWide
+    else if length s.waiting == s.capacity then Err Full
+    else Ok tt
 
 abbrev pub accepted : {T E : Type 0} → Result T E → Bool
 accepted (Ok x) = true
 accepted (Err e) = false
 
 abbrev pub after_load : SenderState → ℕ → SenderState
-after_load s c = cond (accepted (load_answer s c)) (holding s s.left (s.waiting ++ (c ∷ []))) s
+after_load s c = if accepted (load_answer s c) then holding s s.left (s.waiting ++ (c ∷ [])) else s
 
 -- at a clock: where no level is left and a character waits, the oldest becomes its frame's levels
 abbrev pub ready : SenderState → List Level → List ℕ → SenderState

@@ -82,6 +82,7 @@ impl Samples {
         ensures value { result ≡ number (decided (taken self.now)) }
         ensures bound { result < 2 ^ bits }
     {
+        // by number: a false start asks for a bit by its number too
         let mut digits = 0;
         for k in (0..bits).rev() {
             digits = 2 * digits + u16::from(u8::from(self.bit(k)));

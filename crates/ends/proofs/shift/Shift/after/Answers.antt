@@ -1,13 +1,7 @@
 use Rattle.std.proofs.Common.{◌+◌, ◌<◌, length, ◌∙◌, arith, rules}
 use Rattle.line.specs.Frames.{frame_bits}
-use Rattle.ends.proofs.Shifting.{same_bit, next_bit, no_bit}
+use Rattle.ends.proofs.Shifting.{next_bit, no_bit}
 use Rattle.ends.proofs.shift.Shift.after.Goals as goal
-
-pub returns-then-self-gt1 : goal.returns-then-self-gt1
-returns-then-self-gt1 c =
-    let t = c.args.timing.now in
-    let s = c.args.self in
-    record { levels = same_bit t.format t.lengths s.digits s.bit s.clocks c.requires.1; bit = c.requires.0; clocks = omega arith }
 
 pub returns-then-next-bits : goal.returns-then-next-bits
 returns-then-next-bits c =
