@@ -2,11 +2,12 @@
 use Rattle.std.proofs.Common.{◌≡◌, ℕ, zero, suc, ◌+◌, ◌*◌, ◌/◌, ◌%◌, ◌<◌, ◌≤◌, false, List, length, get_or, take, replicate, Ok, Err, sym, ap, ◌∙◌, ⊎_elim, add-zero, zero-add, zero-mul, arith}
 use Rattle.std.proofs.lemmas.Nat.{mul-le}
 use Rattle.std.proofs.lemmas.Bool.{cases_lt, cond-false}
-use Rattle.std.proofs.lemmas.List.{take-replicate, get_or-replicate, get_or_past}
+use Rattle.std.proofs.lemmas.List.{take-replicate, get_or-replicate, get_or_past, length-replicate}
 use Rattle.std.proofs.lemmas.List.FromFn.{get_or-map-range_with_len, length-map-range_with_len, take-map-range_with_len}
 use Rattle.line.specs.declared.refusal.Refusal.TheVariants.{OutOfRange}
 use Rattle.line.specs.declared.format.Format.{Format}
 use Rattle.ends.specs.Times.{sum, start_of, Inside}
+use Rattle.ends.proofs.Tables.{Tables}
 use Rattle.port.specs.Port.{InRange, sample_at, samples, Spaced, port_times, timed}
 
 pub timed_plain : (f : Format) (d : ℕ) → f.address ≡ false → timed f d ≡ Ok (port_times f d)
@@ -58,21 +59,13 @@ module _ (d n : ℕ) (clocks : List ℕ) (are : clocks ≡ samples d n) where
       let next = start_alike 13 (16 * d) (k + 1) (omega arith) in
       (omega arith, omega arith)
 
--- what a `Timing` asks of the two tables
-pub record Tables (ns clocks : List ℕ) : Type 0 where
-  pub lasting : (k : ℕ) → k < 13 → 0 < get_or ns k 0
-  pub short : (k : ℕ) → get_or ns k 0 ≤ 65536
-  pub all_samples : length clocks ≡ 36
-  pub rising : (i : ℕ) → i + 1 < 36 → get_or clocks i 0 ≤ get_or clocks (i + 1) 0
-  pub apart : (k : ℕ) → k < 11 → get_or clocks (3 * k + 2) 0 < get_or clocks (3 * k + 3) 0
-  pub early : (i : ℕ) → get_or clocks i 0 < 1048576
-
 pub tables : (d : ℕ) (clocks : List ℕ) → clocks ≡ samples d 36 → InRange d → Tables (replicate 13 (16 * d)) clocks
 tables d clocks are range =
     let at = sample d 36 clocks are in
     let size = samples_length d 36 clocks are in
     let factor : ℕ → ℕ = λ i. 16 * (i / 3) + 7 + i % 3 in
     record {
+      thirteen = length-replicate 13 (16 * d);
       lasting = λ k h. omega (arith, get_or-replicate 13 k (16 * d) 0 h);
       short = λ k. ⊎_elim
           (λ h. omega (arith, get_or-replicate 13 k (16 * d) 0 h))

@@ -8,6 +8,7 @@ use Rattle.line.specs.declared.format.Format.{Format}
 use Rattle.line.proofs.Bits.{stop_most}
 use Rattle.line.specs.Frames.{first_stop}
 use Rattle.ends.specs.Times.{sum, Inside}
+use Rattle.ends.proofs.Tables.{Tables}
 use Rattle.usart.specs.Usart.{bit_length, lengths, samples, Lasting, Centred}
 use Rattle.usart.proofs.Samples.{bit_lasting, length_samples, take_samples, rising, within, sum_most, inside, centred, apart}
 
@@ -35,34 +36,30 @@ centred_used ns clocks last n size even k h =
     let c = get_or-take n clocks (3 * k + 2) 0 (omega arith) in
     rw (a, b, c) (even k h)
 
--- what the two tables keep
-pub record Tables (ns clocks : List ℕ) : Type 0 where
-  pub thirteen : length ns ≡ 13
-  pub lasting : (k : ℕ) → k < 13 → 0 < get_or ns k 0
-  pub short : (k : ℕ) → get_or ns k 0 ≤ 65536
-  pub all_samples : length clocks ≡ 36
-  pub rising : (i : ℕ) → i + 1 < 36 → get_or clocks i 0 ≤ get_or clocks (i + 1) 0
-  pub apart : (k : ℕ) → k < 11 → get_or clocks (3 * k + 2) 0 < get_or clocks (3 * k + 3) 0
-  pub early : (i : ℕ) → get_or clocks i 0 < 1048576
+-- what holds of the two tables
+pub record Sampled (ns clocks : List ℕ) : Type 0 where
+  pub tables : Tables ns clocks
   pub inside : (f : Format) → Inside ns clocks (first_stop f)
   pub centred : (f : Format) → Centred ns clocks (first_stop f)
 
-pub tables : (u m : ℕ) (ns clocks : List ℕ) → ns ≡ lengths u m 13 → clocks ≡ samples 0 (take 12 ns) → 3 ≤ u → u < 65536 → Tables ns clocks
+pub sampled : (u m : ℕ) (ns clocks : List ℕ) → ns ≡ lengths u m 13 → clocks ≡ samples 0 (take 12 ns) → 3 ≤ u → u < 65536 → Sampled ns clocks
 unfolding lengths
-tables u m ns clocks is samples_are low high =
+sampled u m ns clocks is samples_are low high =
     let bits : length ns ≡ 13 = ap length is ∙ length-map-range_with_len (bit_length u m) 0 13 in
     let each = bit_lasting u m 13 ns is low high in
     let all = All-from_get_or Lasting ns 0 (λ k h. each k (omega arith)) in
     let front = All-take Lasting 12 ns all in
     let twelve : length (take 12 ns) ≡ 12 = length-take-le 12 ns (omega arith) in
     record {
-      thirteen = bits;
-      lasting = λ k h. omega (arith, each k h);
-      short = short ns all;
-      all_samples = ap length samples_are ∙ omega (arith, length_samples 0 (take 12 ns));
-      rising = λ i h. rw (samples_are, add-one) (rising 0 (take 12 ns) front i (omega arith));
-      apart = λ k h. rw samples_are (apart (take 12 ns) front k (omega arith));
-      early = λ i. rw samples_are (omega (arith, within 0 (take 12 ns) front i, sum_most (take 12 ns) front));
+      tables = record {
+        thirteen = bits;
+        lasting = λ k h. omega (arith, each k h);
+        short = short ns all;
+        all_samples = ap length samples_are ∙ omega (arith, length_samples 0 (take 12 ns));
+        rising = λ i h. rw (samples_are, add-one) (rising 0 (take 12 ns) front i (omega arith));
+        apart = λ k h. rw samples_are (apart (take 12 ns) front k (omega arith));
+        early = λ i. rw samples_are (omega (arith, within 0 (take 12 ns) front i, sum_most (take 12 ns) front));
+      };
       inside = λ f k h.
           let stop = stop_most f in
           let here = ap sum (take-take k 12 ns (omega arith)) in

@@ -1,5 +1,5 @@
 -- The times of the USART.
-use Rattle.std.specs.Prelude.{◌≡◌, ℕ, zero, suc, ◌+◌, ◌-◌, ◌*◌, ◌/◌, ◌%◌, ◌^◌, ◌<◌, ◌≤◌, max, cond, List, [], ◌∷◌, ◌++◌, map, nat_le, slice_index}
+use Rattle.std.specs.Prelude.{◌≡◌, ℕ, zero, suc, ◌+◌, ◌-◌, ◌*◌, ◌/◌, ◌%◌, ◌^◌, ◌<◌, ◌≤◌, max, List, [], ◌∷◌, ◌++◌, map, nat_le, slice_index, if◌then◌else◌}
 use Rattle.std.specs.List.{range_with_len}
 use Rattle.line.specs.declared.format.Format.{Format}
 use Rattle.line.specs.Frames.{first_stop}
@@ -16,7 +16,7 @@ lengths u m n = map (bit_length u m) (range_with_len 0 n)
 -- the largest of 2 ^ k, .., 2, 1 that is not above n
 unfoldable pub power_within : ℕ → ℕ → ℕ
 power_within zero n = 1
-power_within (suc k) n = cond (nat_le (2 ^ suc k) n) (2 ^ suc k) (power_within k n)
+power_within (suc k) n = if nat_le (2 ^ suc k) n then 2 ^ suc k else power_within k n
 
 -- how far the outer samples of a bit of n clocks lie from the middle one; no bit has more than 2 ^ 16 clocks
 abbrev pub distance : ℕ → ℕ

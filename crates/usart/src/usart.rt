@@ -68,6 +68,7 @@ fn sample_clocks(lengths: &[u32]) -> [u32; 36]
 {
     let mut clocks = [0; 36];
     let mut start = 0;
+    // By place: of what a loop over `chunks_exact_mut` wrote, a proof knows no more than how long it is.
     for (k, length) in lengths.iter().enumerate() {
         clocks[3 * k..3 * k + 3].copy_from_slice(&bit_samples(start, *length));
         start += length;

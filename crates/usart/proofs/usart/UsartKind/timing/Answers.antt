@@ -4,7 +4,7 @@ use Rattle.line.specs.Frames.{first_stop}
 use Rattle.line.proofs.Bits.{stop_most}
 use Rattle.std.proofs.lemmas.List.{get_or-take}
 use Rattle.usart.proofs.Samples.{bit_lasting}
-use Rattle.usart.proofs.Table.{frame_samples, inside_used, centred_used, tables}
+use Rattle.usart.proofs.Table.{frame_samples, inside_used, centred_used, sampled}
 use Rattle.usart.proofs.usart.UsartKind.timing.Goals as goal
 
 pub sample_clocks-requires : goal.sample_clocks-requires
@@ -20,14 +20,14 @@ sample_clocks-requires c =
 pub invariant_of-result : goal.invariant_of-result
 invariant_of-result c =
     let s = c.args.settings in
-    let t = tables s.divider s.modulator _ _ c.bit_lengths-lengths.ensures c.sample_clocks.ensures s.least (omega arith) in
+    let t = (sampled s.divider s.modulator _ _ c.bit_lengths-lengths.ensures c.sample_clocks.ensures s.least (omega arith)).tables in
     search rules
 
 pub returns : goal.returns
 returns c =
     let s = c.args.settings in
     let f = c.args.format in
-    let t = tables s.divider s.modulator _ _ c.bit_lengths-lengths.ensures c.sample_clocks.ensures s.least (omega arith) in
+    let t = sampled s.divider s.modulator _ _ c.bit_lengths-lengths.ensures c.sample_clocks.ensures s.least (omega arith) in
     let size : 3 * (1 + first_stop f) ≡ 3 * (1 + c.first_stop.result) = omega (arith, c.first_stop.ensures) in
     record {
       times = cc (frame_samples s.divider s.modulator (1 + first_stop f) (omega (arith, stop_most f)));
