@@ -1,7 +1,7 @@
 // A chip driven as firmware drives it, with each access to a register printed.
 use super::registers::Register;
-use chip::Chip;
 use chip::address::{UBR0, UBR1, UCTL, UMCTL, URCTL, URXBUF, UTCTL, UTXBUF};
+use chip::{Chip, Interrupts};
 use line::Level;
 use lock::{CLOCK_HERTZ, DIVIDER, MODULATOR};
 use std::io;
@@ -24,17 +24,17 @@ struct Firmware {
 }
 
 impl Firmware {
-    fn write(&mut self, rt: &HostRuntime, address: u16, value: u8) -> io::Result<()> {
+    fn write(&mut self, rt: &impl Print, address: u16, value: u8) -> io::Result<()> {
         let answer = self.chip.write(address, value);
         let register = Register { address, value };
         print!(rt; "  {:>5}  write   {register}", self.clocks)?;
         match answer {
             Ok(()) => println!(rt; ""),
-            Err(refusal) => println!(rt; "; refused with {}", refusal.number()),
+            Err(refusal) => println!(rt; "; refused with {}", u8::from(refusal)),
         }
     }
 
-    fn read(&mut self, rt: &HostRuntime, address: u16) -> io::Result<()> {
+    fn read(&mut self, rt: &impl Print, address: u16) -> io::Result<()> {
         match self.chip.read(address) {
             Ok(value) => {
                 let register = Register { address, value };
@@ -43,7 +43,7 @@ impl Firmware {
             Err(refusal) => println!(rt;
                 "  {:>5}  read    {address:02X}h; refused with {}",
                 self.clocks,
-                refusal.number()
+                u8::from(refusal)
             ),
         }
     }
@@ -54,30 +54,22 @@ impl Firmware {
     }
 
     // The two interrupt flags.
-    fn poll(&self, rt: &HostRuntime) -> io::Result<()> {
+    fn poll(&self, rt: &impl Print) -> io::Result<()> {
         let flags = self.chip.interrupts();
-        let sent = if flags.utxifg { 1 } else { 0 };
-        let received = if flags.urxifg { 1 } else { 0 };
+        let sent = u8::from(flags.utxifg);
+        let received = u8::from(flags.urxifg);
         println!(rt;
             "  {:>5}  flags   UTXIFG {sent}, URXIFG {received}",
             self.clocks
         )
     }
 
-    // Clocks until the byte in UTXBUF has left for the line.
-    fn wait_to_leave(&mut self) {
+    // Clocks until the interrupt flags are as wanted.
+    fn wait_until<F: Fn(Interrupts) -> bool>(&mut self, wanted: F)
+        requires { F.IsAlwaysCallable wanted }
+    {
         for _ in 0..PATIENCE {
-            if self.chip.interrupts().utxifg {
-                return;
-            }
-            self.clock();
-        }
-    }
-
-    // Clocks until a byte has been loaded into URXBUF.
-    fn wait_to_receive(&mut self) {
-        for _ in 0..PATIENCE {
-            if self.chip.interrupts().urxifg {
+            if wanted(self.chip.interrupts()) {
                 return;
             }
             self.clock();
@@ -86,7 +78,7 @@ impl Firmware {
 }
 
 // Sets a chip up as the lock does, releases it, and lets it hear a character of its own.
-pub fn drive(rt: &HostRuntime) -> io::Result<()> {
+pub fn drive(rt: &impl Print) -> io::Result<()> {
     println!(rt;
         "Chip:    the lock's port with Listen, clocked at {CLOCK_HERTZ} Hz: it hears what it sends"
     )?;
@@ -95,21 +87,23 @@ pub fn drive(rt: &HostRuntime) -> io::Result<()> {
         chip: Chip::power_up(),
         clocks: 0,
     };
-    let divider = DIVIDER.to_le_bytes();
+    let [low, high] = DIVIDER.to_le_bytes();
     firmware.read(rt, UCTL)?;
     firmware.write(rt, UCTL, HELD)?;
     firmware.write(rt, UMCTL, MODULATOR)?;
-    firmware.write(rt, UBR0, divider[0])?;
-    firmware.write(rt, UBR1, divider[1])?;
+    firmware.write(rt, UBR0, low)?;
+    firmware.write(rt, UBR1, high)?;
     firmware.write(rt, UCTL, RUNNING)?;
-    firmware.write(rt, UBR0, divider[0])?;
+    firmware.write(rt, UBR0, low)?;
     firmware.poll(rt)?;
     firmware.write(rt, UTXBUF, CHARACTER)?;
     firmware.read(rt, UTCTL)?;
     firmware.poll(rt)?;
-    firmware.wait_to_leave();
+    // the byte in UTXBUF has left for the line
+    firmware.wait_until(|flags| flags.utxifg);
     firmware.poll(rt)?;
-    firmware.wait_to_receive();
+    // a byte has been loaded into URXBUF
+    firmware.wait_until(|flags| flags.urxifg);
     firmware.poll(rt)?;
     firmware.read(rt, URCTL)?;
     firmware.read(rt, URXBUF)?;

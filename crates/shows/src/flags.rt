@@ -1,4 +1,5 @@
 // The flags of an entry, by name.
+use super::bits::SetBits;
 use ends::{BREAK, FRAMING, OVERRUN, PARITY};
 use std::fmt;
 
@@ -14,16 +15,11 @@ pub struct Flags(pub u8);
 
 impl fmt::Display for Flags {
     fn fmt<W: fmt::Write>(&self, f: &mut fmt::Formatter<W>) -> fmt::Result {
-        let mut first = true;
-        for (flag, name) in NAMES {
-            if self.0 & flag != 0 {
-                if !first {
-                    f.write_str(", ")?;
-                }
-                f.write_str(name)?;
-                first = false;
-            }
-        }
-        Ok(())
+        let names = SetBits {
+            byte: self.0,
+            names: &NAMES,
+            between: ", ",
+        };
+        write!(f, "{names}")
     }
 }

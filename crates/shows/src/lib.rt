@@ -2,17 +2,31 @@
 
 #![tactic(auto)]
 
+pub mod bits;
+pub mod entries;
 pub mod firmware;
 pub mod flags;
+pub mod joining;
 pub mod named_ends;
 pub mod records;
 pub mod registers;
+pub mod runs;
 pub mod settings_sheet;
+pub mod tables;
+pub mod tenths;
 pub mod verdicts;
+pub mod ways;
 
+pub use entries::readable;
 pub use firmware::drive;
 pub use flags::Flags;
+pub use joining::{LAPTOP_HERTZ, join};
 pub use named_ends::{port_timing, usart_timing};
-pub use records::{demo, join, print_table, readable};
+pub use records::demo;
+pub use runs::{Run, Runs};
 pub use settings_sheet::print_sheet;
-pub use verdicts::Told;
+pub use tables::print_table;
+pub use ways::{Clocked, Way};
+
+// The record that the bench takes where it is given none.
+pub const SAMPLE: &str = "2026-11-17 08:59 opened, key 4";

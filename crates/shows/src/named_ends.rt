@@ -1,37 +1,42 @@
 // The times of an end whose settings a person gave.
-use anyhow::bail;
+use anyhow::{Context, anyhow};
 use ends::{Kind, Timing};
 use line::Format;
 use port::Port;
+use std::ops::RangeInclusive;
 use usart::Usart;
+
+// The number, if a setting may have it.
+fn within<T: TryFrom<u32> + Drop>(
+    what: &str,
+    number: u32,
+    range: RangeInclusive<u32>,
+) -> anyhow::Result<T>
+where
+    T::Error: Drop,
+{
+    let (least, most) = (*range.start(), *range.end());
+    T::try_from(number)
+        .ok()
+        .filter(|_| range.contains(&number))
+        .context(format_args!("{what} {number} is not from {least} to {most}"))
+}
 
 // The times of a USART.
 pub fn usart_timing(format: Format, divider: u32, modulator: u32) -> anyhow::Result<Timing> {
-    if divider < 3 || divider > 65_535 {
-        bail!("the USART's divider {divider} is not from 3 to 65535");
-    }
-    if modulator > 255 {
-        bail!("the modulator {modulator} is not from 0 to 255");
-    }
-    let Ok(settings) = usart::Settings::new(divider as u16, modulator as u8) else {
-        bail!("the USART's settings are out of range");
-    };
-    match Usart::timing(format, settings) {
-        Ok(timing) => Ok(timing),
-        Err(_) => bail!("the USART has no such format"),
-    }
+    let divider = within("the USART's divider", divider, 3..=65_535)?;
+    let modulator = within("the modulator", modulator, 0..=255)?;
+    let settings = usart::Settings::new(divider, modulator).map_err(|_| anyhow!(
+        "the USART's settings are out of range"
+    ))?;
+    Usart::timing(format, settings).map_err(|_| anyhow!("the USART has no such format"))
 }
 
 // The times of a laptop's port.
 pub fn port_timing(format: Format, divider: u32) -> anyhow::Result<Timing> {
-    if divider < 1 || divider > 4096 {
-        bail!("the port's divider {divider} is not from 1 to 4096");
-    }
-    let Ok(settings) = port::Settings::new(divider as u16) else {
-        bail!("the port's divider is out of range");
-    };
-    match Port::timing(format, settings) {
-        Ok(timing) => Ok(timing),
-        Err(_) => bail!("a laptop's port has no address bit"),
-    }
+    let divider = within("the port's divider", divider, 1..=4096)?;
+    let settings = port::Settings::new(divider).map_err(|_| anyhow!(
+        "the port's divider is out of range"
+    ))?;
+    Port::timing(format, settings).map_err(|_| anyhow!("a laptop's port has no address bit"))
 }

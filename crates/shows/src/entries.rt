@@ -1,0 +1,38 @@
+// The entries that come of a scan or over a link, for a person to read.
+use super::flags::Flags;
+use std::io;
+
+// A character as a person reads it: itself where it can be printed, and a dot where not.
+pub fn readable(character: u16) -> char {
+    u8::try_from(character)
+        .ok()
+        .filter(|byte| matches!(byte, 0x20..=0x7e))
+        .map_or('.', char::from)
+}
+
+// How many entries carry a flag.
+pub fn flagged(entries: &[(u16, u8)]) -> usize {
+    entries.iter().filter(|(_, bits)| *bits != 0).count()
+}
+
+// The characters of the entries, as text.
+pub fn print_text(rt: &impl Print, entries: &[(u16, u8)]) -> io::Result<()> {
+    print!(rt; "  ")?;
+    for (character, _) in entries {
+        print!(rt; "{}", readable(*character))?;
+    }
+    println!(rt; "")
+}
+
+// The entries that carry a flag, one to a line.
+pub fn print_flagged(rt: &impl Print, entries: &[(u16, u8)]) -> io::Result<()> {
+    println!(rt; "  entry  character  flags")?;
+    for (number, (character, bits)) in (1u32..).zip(entries) {
+        if *bits != 0 {
+            let shown = readable(*character);
+            let flags = Flags(*bits);
+            println!(rt; "  {number:>5}  {character:>4X}h '{shown}'  {flags}")?;
+        }
+    }
+    Ok(())
+}
