@@ -1,15 +1,21 @@
 // A capture of a line, of any length, scanned piece by piece.
 use super::lines::chosen;
-use super::options::{check_words, option, other};
-use anyhow::bail;
+use super::options::{Takes, Words};
+use anyhow::{Context, anyhow, bail, ensure};
 use ends::Timing;
 use picture::Scanner;
 use shows::{Flags, readable};
 use std::fs::File;
 use std::io;
 use std::io::Read;
+use std::rt::Files;
+use std::str::FromStr;
 
-const OPTIONS: [&str; 4] = ["--format", "--divider", "--modulator", "--as"];
+const TAKES: Takes = Takes {
+    command: "scan",
+    options: &["--format", "--divider", "--modulator", "--as"],
+    others: 1,
+};
 
 const PIECE: usize = 65_536;
 
@@ -25,66 +31,86 @@ brackets, or one to a line in hexadecimal or decimal. It reads the file, or
 standard input without one, in pieces, so a capture may have any length. Without
 settings it takes those of the lock.";
 
-#[derive(Clone, Copy)]
+#[derive(Clone, Copy, Default)]
 enum Style {
+    #[default]
     Text,
     Hex,
     Decimal,
 }
 
-fn print_entry(rt: &HostRuntime, style: Style, entry: (u16, u8)) -> io::Result<()> {
-    let (character, bits) = entry;
-    match style {
-        Style::Text => print!(rt; "{}", readable(character))?,
-        Style::Hex => print!(rt; "{character:02X}h")?,
-        Style::Decimal => print!(rt; "{character}")?,
-    }
-    let flags = Flags(bits);
-    match (style, bits) {
-        (Style::Text, 0) => Ok(()),
-        (Style::Text, _) => print!(rt; "[{flags}]"),
-        (_, 0) => println!(rt; ""),
-        (_, _) => println!(rt; "  {flags}"),
+impl FromStr for Style {
+    type Err = anyhow::Error;
+
+    fn from_str(word: &str) -> anyhow::Result<Style> {
+        match word {
+            "text" => Ok(Style::Text),
+            "hex" => Ok(Style::Hex),
+            "decimal" => Ok(Style::Decimal),
+            _ => bail!("--as: '{word}' is none of text, hex and decimal"),
+        }
     }
 }
 
-// The place of the first byte that is no level, if there is one.
-fn no_level(piece: &[u8]) -> Option<usize> {
-    for (i, byte) in piece.iter().enumerate() {
-        if *byte > 1 {
-            return Some(i);
+impl Style {
+    fn print_entry(self, rt: &impl Print, (character, bits): (u16, u8)) -> io::Result<()> {
+        match self {
+            Style::Text => print!(rt; "{}", readable(character))?,
+            Style::Hex => print!(rt; "{character:02X}h")?,
+            Style::Decimal => print!(rt; "{character}")?,
+        }
+        let flags = Flags(bits);
+        match (self, bits) {
+            (Style::Text, 0) => Ok(()),
+            (Style::Text, _) => print!(rt; "[{flags}]"),
+            (_, 0) => println!(rt; ""),
+            (_, _) => println!(rt; "  {flags}"),
         }
     }
-    None
 }
 
 // Refuses a piece with a byte that is no level, and says where it stands.
 fn check_piece(piece: &[u8], before: u64) -> anyhow::Result<()> {
-    let Some(at) = no_level(piece) else {
+    let Some(at) = piece.iter().position(|byte| *byte > 1) else {
         return Ok(());
     };
     let place = before.saturating_add(at as u64);
     bail!("byte {place} of the capture is no level: it is neither 0 nor 1")
 }
 
-// Looks through a whole capture before anything is written; answers how many bytes it has.
-fn check_capture<I: Read>(rt: &HostRuntime, input: &mut I) -> anyhow::Result<u64> {
-    let mut buffer = vec![in rt.alloc(); 0; PIECE]?;
+// The next piece of a capture, which is empty at its end.
+fn next_piece<'a, I: Read>(
+    input: &mut I,
+    buffer: &'a mut [u8],
+    before: u64,
+) -> anyhow::Result<&'a [u8]> {
+    let count = input.read(buffer)?;
+    let piece = &buffer[..count];
+    check_piece(piece, before)?;
+    Ok(piece)
+}
+
+// Reads a capture to its end, and hands on each piece of it, with how many bytes came before; answers how many bytes it has.
+fn each_piece<I: Read, F: FnMut(&[u8], u64) -> anyhow::Result<()>>(
+    input: &mut I,
+    buffer: &mut [u8],
+    mut take: F,
+) -> anyhow::Result<u64>
+    requires { F.IsAlwaysCallable take }
+{
     let mut before = 0u64;
     for _ in 0..u64::MAX {
-        let count = input.read(buffer.as_mut_slice())?;
-        if count == 0 {
+        let piece = next_piece(input, buffer, before)?;
+        if piece.is_empty() {
             break;
         }
-        if count <= buffer.len() {
-            check_piece(&buffer.as_slice()[..count], before)?;
-        }
-        before = before.saturating_add(count as u64);
+        take(piece, before)?;
+        before = before.saturating_add(piece.len() as u64);
     }
     Ok(before)
 }
 
-fn tell_progress(rt: &HostRuntime, before: u64, after: u64) -> io::Result<()> {
+fn tell_progress(rt: &impl Eprint, before: u64, after: u64) -> io::Result<()> {
     if before / STEP == after / STEP {
         return Ok(());
     }
@@ -92,7 +118,7 @@ fn tell_progress(rt: &HostRuntime, before: u64, after: u64) -> io::Result<()> {
 }
 
 fn scan_capture<I: Read>(
-    rt: &HostRuntime,
+    rt: &(impl Print + Eprint + AllocGlobal),
     timing: &Timing,
     style: Style,
     input: &mut I,
@@ -100,67 +126,51 @@ fn scan_capture<I: Read>(
     let mut buffer = vec![in rt.alloc(); 0; PIECE]?;
     let mut entries = vec![in rt.alloc(); (0, 0); PIECE]?;
     let mut scanner = Scanner::new(timing);
-    let mut before = 0u64;
-    for _ in 0..u64::MAX {
-        let count = input.read(buffer.as_mut_slice())?;
-        if count == 0 {
-            break;
+    let bytes = each_piece(input, buffer.as_mut_slice(), |piece, before| {
+        let found = scanner
+            .scan(piece, entries.as_mut_slice())
+            .map_err(|_| anyhow!("a piece of the capture has too many entries"))?;
+        for entry in entries.as_slice().iter().take(found) {
+            style.print_entry(rt, *entry)?;
         }
-        if count <= buffer.len() {
-            let piece = &buffer.as_slice()[..count];
-            check_piece(piece, before)?;
-            let Ok(found) = scanner.scan(piece, entries.as_mut_slice()) else {
-                bail!("a piece of the capture has too many entries");
-            };
-            for entry in entries.as_slice().iter().take(found) {
-                print_entry(rt, style, *entry)?;
-            }
-        }
-        let after = before.saturating_add(count as u64);
-        tell_progress(rt, before, after)?;
-        before = after;
-    }
+        tell_progress(rt, before, before.saturating_add(piece.len() as u64))?;
+        Ok(())
+    })?;
     if let Style::Text = style
-        && before > 0
+        && bytes > 0
     {
         println!(rt; "")?;
     }
-    Ok(before)
+    Ok(bytes)
 }
 
-fn scan_file(rt: &HostRuntime, timing: &Timing, style: Style, name: &str) -> anyhow::Result<()> {
-    let Ok(mut first) = File::open(rt, name) else {
-        bail!("cannot open the file '{name}'");
-    };
-    if check_capture(rt, &mut first)? == 0 {
-        bail!("empty capture '{name}'");
-    }
-    let Ok(mut file) = File::open(rt, name) else {
-        bail!("cannot reopen the file '{name}'");
-    };
-    let _ = scan_capture(rt, timing, style, &mut file)?;
+fn scan_file(
+    rt: &(impl Files + Print + Eprint + AllocGlobal),
+    timing: &Timing,
+    style: Style,
+    name: &str,
+) -> anyhow::Result<()> {
+    let mut first = File::open(rt, name).context(format_args!("cannot open the file '{name}'"))?;
+    // the whole capture is looked through before anything is written
+    let mut buffer = vec![in rt.alloc(); 0; PIECE]?;
+    let bytes = each_piece(&mut first, buffer.as_mut_slice(), |_, _| Ok(()))?;
+    ensure!(bytes > 0, "empty capture '{name}'");
+    let mut file = File::open(rt, name).context(format_args!("cannot reopen the file '{name}'"))?;
+    scan_capture(rt, timing, style, &mut file)?;
     Ok(())
 }
 
-pub fn command(rt: &HostRuntime, words: &[String]) -> anyhow::Result<()> {
-    check_words(words, &OPTIONS, 1)?;
-    let style = match option(words, &OPTIONS, "--as") {
-        None | Some("text") => Style::Text,
-        Some("hex") => Style::Hex,
-        Some("decimal") => Style::Decimal,
-        Some(word) => {
-            bail!("--as: '{word}' is none of text, hex and decimal");
-        }
-    };
-    let timing = chosen(words, &OPTIONS)?;
-    match other(words, &OPTIONS, 0) {
-        Some(name) => scan_file(rt, &timing, style, name),
-        None => {
-            let bytes = scan_capture(rt, &timing, style, &mut rt.stdin())?;
-            if bytes == 0 {
-                bail!("the capture on standard input is empty");
-            }
-            Ok(())
-        }
+pub fn command(
+    rt: &(impl Files + Input + Print + Eprint + AllocGlobal),
+    words: &[String],
+) -> anyhow::Result<()> {
+    let words = Words::parse(rt.alloc(), TAKES, words)?;
+    let style: Style = words.parsed("--as")?;
+    let timing = chosen(&words)?;
+    if let Some(name) = words.other(0) {
+        return scan_file(rt, &timing, style, name);
     }
+    let bytes = scan_capture(rt, &timing, style, &mut rt.reader())?;
+    ensure!(bytes > 0, "the capture on standard input is empty");
+    Ok(())
 }

@@ -1,13 +1,19 @@
 // Text drawn as a sender puts it on the line: as bytes, as runs of equal levels, or as a file for a waveform viewer.
 use super::lines::chosen;
-use super::options::{check_words, option, other};
-use anyhow::bail;
+use super::options::{Takes, Words};
+use anyhow::{anyhow, bail, ensure};
 use ends::Timing;
-use picture::{draw, run_length};
+use picture::draw;
+use shows::{Run, Runs};
 use std::io;
 use std::io::Write;
+use std::str::FromStr;
 
-const OPTIONS: [&str; 4] = ["--format", "--divider", "--modulator", "--as"];
+const TAKES: Takes = Takes {
+    command: "draw",
+    options: &["--format", "--divider", "--modulator", "--as"],
+    others: 1,
+};
 
 // The longest frame: thirteen bits of 65,536 clocks.
 const MOST_CLOCKS: usize = 13 * 65_536;
@@ -27,129 +33,100 @@ $var wire 1 ! line $end
 $upscope $end
 $enddefinitions $end";
 
-#[derive(Clone, Copy)]
+#[derive(Clone, Copy, Default)]
 enum Style {
+    #[default]
     Runs,
     Bytes,
     Vcd,
 }
 
-// A run of equal levels that may go on in the next frame.
-#[derive(Clone, Copy)]
-struct Run {
-    from: u64,
-    clocks: u64,
-    byte: u8,
+impl FromStr for Style {
+    type Err = anyhow::Error;
+
+    fn from_str(word: &str) -> anyhow::Result<Style> {
+        match word {
+            "runs" => Ok(Style::Runs),
+            "bytes" => Ok(Style::Bytes),
+            "vcd" => Ok(Style::Vcd),
+            _ => bail!("--as: '{word}' is none of runs, bytes and vcd"),
+        }
+    }
 }
 
-impl Run {
-    fn print(self, rt: &HostRuntime, style: Style) -> io::Result<()> {
-        if self.clocks == 0 {
-            return Ok(());
-        }
-        match style {
-            Style::Runs => {
-                let level = if self.byte == 0 { "space" } else { "mark" };
-                println!(rt; "  {:>10}  {level:<5}  {:>8}", self.from, self.clocks)
-            }
-            Style::Vcd => println!(rt; "#{}\n{}!", self.from, self.byte),
+impl Style {
+    fn write_head(self, rt: &impl Print) -> io::Result<()> {
+        match self {
+            Style::Runs => println!(rt; "  from clock  level    clocks"),
+            Style::Vcd => rt.println(VCD_HEAD),
             Style::Bytes => Ok(()),
         }
     }
 
-    // The run that begins where this one ends.
-    fn next(self, byte: u8) -> Run {
-        Run {
-            from: self.from.saturating_add(self.clocks),
-            clocks: 0,
-            byte,
+    // Writes what has been drawn of a frame that begins with this clock. It begins with space and ends with mark, so
+    // no run goes on in the next.
+    fn write_frame(self, rt: &impl Print, begin: u64, frame: &[u8]) -> io::Result<()> {
+        if let Style::Bytes = self {
+            return io::writer(rt).write_all(frame);
+        }
+        for run in Runs::new(frame) {
+            self.write_run(rt, begin.saturating_add(run.from as u64), run)?;
+        }
+        Ok(())
+    }
+
+    fn write_run(self, rt: &impl Print, from: u64, run: Run) -> io::Result<()> {
+        match self {
+            Style::Runs => println!(rt; "  {from:>10}  {:<5}  {:>8}", run.level(), run.clocks),
+            Style::Vcd => println!(rt; "#{from}\n{}!", run.byte),
+            Style::Bytes => Ok(()),
         }
     }
 }
 
-// Writes what has been drawn of a frame, and answers the run at its end.
-fn write_frame(rt: &HostRuntime, style: Style, frame: &[u8], before: Run) -> io::Result<Run> {
-    let mut run = before;
-    let mut left = frame;
-    for _ in 0..frame.len() {
-        let clocks = run_length(left);
-        if clocks == 0 || left.is_empty() {
-            return Ok(run);
-        }
-        let byte = left[0];
-        if byte != run.byte {
-            run.print(rt, style)?;
-            run = run.next(byte);
-        }
-        run.clocks = run.clocks.saturating_add(clocks as u64);
-        left = &left[clocks..];
-    }
-    Ok(run)
+fn draw_character<'a>(
+    timing: &Timing,
+    character: u8,
+    frame: &'a mut [u8],
+) -> anyhow::Result<&'a [u8]> {
+    let clocks = draw(timing, &[u16::from(character)], frame).map_err(|_| anyhow!(
+        "a character has more bits than the format"
+    ))?;
+    let clocks = clocks.min(frame.len());
+    Ok(&frame[..clocks])
 }
 
-fn write_head(rt: &HostRuntime, style: Style) -> io::Result<()> {
-    match style {
-        Style::Runs => println!(rt; "  from clock  level    clocks"),
-        Style::Vcd => rt.println(VCD_HEAD),
-        Style::Bytes => Ok(()),
-    }
-}
-
-fn draw_text(rt: &HostRuntime, timing: &Timing, style: Style, text: &str) -> anyhow::Result<()> {
+fn draw_text(
+    rt: &(impl Print + AllocGlobal),
+    timing: &Timing,
+    style: Style,
+    text: &str,
+) -> anyhow::Result<()> {
     let mut frame = vec![in rt.alloc(); 0; MOST_CLOCKS]?;
-    let mut run = Run {
-        from: 0,
-        clocks: 0,
-        byte: 0,
-    };
-    write_head(rt, style)?;
+    let mut begin = 0u64;
+    style.write_head(rt)?;
     for character in text.bytes() {
-        let Ok(clocks) = draw(timing, &[u16::from(character)], frame.as_mut_slice()) else {
-            bail!("a character has more bits than the format");
-        };
-        if clocks > frame.len() {
-            return Ok(());
-        }
-        let drawn = &frame.as_slice()[..clocks];
-        match style {
-            Style::Bytes => rt.stdout().write_all(drawn)?,
-            Style::Runs | Style::Vcd => run = write_frame(rt, style, drawn, run)?,
-        }
+        let drawn = draw_character(timing, character, frame.as_mut_slice())?;
+        style.write_frame(rt, begin, drawn)?;
+        begin = begin.saturating_add(drawn.len() as u64);
     }
-    run.print(rt, style)?;
     if let Style::Vcd = style {
-        println!(rt; "#{}", run.next(1).from)?;
+        println!(rt; "#{begin}")?;
     }
     Ok(())
 }
 
-// A wide character is found before anything is written.
-fn all_narrow(timing: &Timing, text: &str) -> bool {
+pub fn command(rt: &(impl Print + AllocGlobal), words: &[String]) -> anyhow::Result<()> {
+    let words = Words::parse(rt.alloc(), TAKES, words)?;
+    let style: Style = words.parsed("--as")?;
+    let timing = chosen(&words)?;
+    let text = words.needed(0, "text")?;
+    // a wide character is found before anything is written
     let characters = timing.format.characters();
-    for character in text.bytes() {
-        if u16::from(character) >= characters {
-            return false;
-        }
-    }
-    true
-}
-
-pub fn command(rt: &HostRuntime, words: &[String]) -> anyhow::Result<()> {
-    check_words(words, &OPTIONS, 1)?;
-    let style = match option(words, &OPTIONS, "--as") {
-        None | Some("runs") => Style::Runs,
-        Some("bytes") => Style::Bytes,
-        Some("vcd") => Style::Vcd,
-        Some(word) => {
-            bail!("--as: '{word}' is none of runs, bytes and vcd");
-        }
-    };
-    let timing = chosen(words, &OPTIONS)?;
-    let Some(text) = other(words, &OPTIONS, 0) else {
-        bail!("the text is missing; 'bench draw --help' says more");
-    };
-    if !all_narrow(&timing, text) {
-        bail!("a character of the text has more bits than the format");
-    }
+    ensure!(
+        text.bytes()
+            .all(|character| u16::from(character) < characters),
+        "a character of the text has more bits than the format"
+    );
     draw_text(rt, &timing, style, text)
 }

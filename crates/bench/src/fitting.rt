@@ -1,14 +1,18 @@
 // Whether one pair of ends fits at a pair of rates.
 use super::lines::end_named;
-use super::options::{check_words, format, number, other};
+use super::options::{Takes, Words, number};
 use anyhow::bail;
-use ends::{BareReceiver, BareSender};
 use line::Refusal;
-use link::{Rates, Verdict, fit};
-use sheet::{Off, Tolerance};
+use link::Verdict;
+use sheet::Off;
+use shows::{Clocked, Way};
 use std::io;
 
-const OPTIONS: [&str; 1] = ["--format"];
+const TAKES: Takes = Takes {
+    command: "fit",
+    options: &["--format"],
+    others: 4,
+};
 
 pub const HELP: &str = "usage: bench fit SENDER HERTZ RECEIVER HERTZ [--format 8N1]
 
@@ -16,55 +20,34 @@ Asks whether a sender and a receiver fit when their clocks have these rates, and
 if they do, between which rates each clock may run. An end is written
 usart:DIVIDER:MODULATOR or port:DIVIDER, as usart:6:6Fh or port:24.";
 
-fn print_range(
-    rt: &HostRuntime,
-    whose: &str,
-    low: Option<u32>,
-    high: Option<u32>,
-) -> io::Result<()> {
-    match (low, high) {
-        (Some(low), Some(high)) => {
-            println!(rt;
-                "The {whose}'s clock may have {low} to {high} Hz, if the other's is as given."
-            )
-        }
-        _ => Ok(()),
-    }
+fn print_range(rt: &impl Print, whose: &str, way: Way, off: Off) -> io::Result<()> {
+    let Some(range) = way.range(off) else {
+        return Ok(());
+    };
+    println!(rt;
+        "The {whose}'s clock may have {} to {} Hz, if the other's is as given.",
+        range.start(),
+        range.end()
+    )
 }
 
-// The word with this number, or a complaint that it is missing.
-fn needed<'a>(words: &'a [String], at: usize, what: &str) -> anyhow::Result<&'a str> {
-    match other(words, &OPTIONS, at) {
-        Some(word) => Ok(word),
-        None => bail!("the {what} is missing; 'bench fit --help' says more"),
-    }
-}
-
-pub fn command(rt: &HostRuntime, words: &[String]) -> anyhow::Result<()> {
-    check_words(words, &OPTIONS, 4)?;
-    let format = format(words, &OPTIONS)?;
-    let from = end_named(format, needed(words, 0, "sender")?)?;
-    let send = number(needed(words, 1, "sender's rate")?, "sender's rate")?;
-    let to = end_named(format, needed(words, 2, "receiver")?)?;
-    let receive = number(needed(words, 3, "receiver's rate")?, "receiver's rate")?;
-    let rates = Rates { send, receive };
-    let sender = BareSender::new(from);
-    let receiver = BareReceiver::new(to);
-    let sending = Tolerance {
-        sender: &sender,
-        receiver: &receiver,
-        rates,
-        off: Off::Sender,
+pub fn command(rt: &(impl Print + AllocGlobal), words: &[String]) -> anyhow::Result<()> {
+    let words = Words::parse(rt.alloc(), TAKES, words)?;
+    let format = words.format()?;
+    let from = Clocked {
+        timing: end_named(rt.alloc(), format, words.needed(0, "sender")?)?,
+        hertz: number(words.needed(1, "sender's rate")?, "sender's rate")?,
     };
-    let receiving = Tolerance {
-        off: Off::Receiver,
-        ..sending
+    let to = Clocked {
+        timing: end_named(rt.alloc(), format, words.needed(2, "receiver")?)?,
+        hertz: number(words.needed(3, "receiver's rate")?, "receiver's rate")?,
     };
-    match fit(&sender, &receiver, rates) {
+    let way = Way { from, to };
+    match way.verdict() {
         Ok(Verdict::Passes) => {
             println!(rt; "They fit: every character arrives as it was sent.")?;
-            print_range(rt, "sender", sending.lowest(), sending.highest())?;
-            print_range(rt, "receiver", receiving.lowest(), receiving.highest())?;
+            print_range(rt, "sender", way, Off::Sender)?;
+            print_range(rt, "receiver", way, Off::Receiver)?;
         }
         Ok(Verdict::Early(bit)) => println!(rt;
             "They do not fit: bit {bit} of a frame can be sampled before it is on the line."

@@ -1,128 +1,106 @@
 // The words that follow a command: options, each with a value, and others.
-use anyhow::bail;
+use anyhow::{Context, bail, ensure};
 use line::Format;
+use std::alloc::Global;
+use std::str::FromStr;
 use words::format_named;
 
-fn is_option(word: &str, options: &[&str]) -> bool {
-    for option in options {
-        if word == *option {
-            return true;
-        }
-    }
-    false
+// What a command takes: the options that it knows, and so many other words.
+#[derive(Clone, Copy)]
+pub struct Takes {
+    pub command: &'static str,
+    pub options: &'static [&'static str],
+    pub others: usize,
 }
 
-// Refuses words that the command does not know, options without a value, and more than `most` other words.
-pub fn check_words(words: &[String], options: &[&str], most: usize) -> anyhow::Result<()> {
-    let mut needs_value = false;
-    let mut others = 0usize;
-    for word in words {
-        let text = word.as_str();
-        if needs_value {
-            needs_value = false;
-        } else if is_option(text, options) {
-            needs_value = true;
-        } else if text.starts_with("--") {
-            bail!("unknown option '{text}'");
-        } else {
-            others = others.saturating_add(1);
-            if others > most {
-                bail!("one word too many: '{text}'");
+#[derive(Drop)]
+pub struct Words<'a> {
+    command: &'static str,
+    options: Vec<(&'a str, &'a str)>,
+    others: Vec<&'a str>,
+}
+
+impl<'a> Words<'a> {
+    // Refuses an option that the command does not know, one without a value, and a word too many.
+    pub fn parse(alloc: Global, takes: Takes, words: &'a [String]) -> anyhow::Result<Words<'a>> {
+        let mut parsed = Words {
+            command: takes.command,
+            options: Vec::new(alloc),
+            others: Vec::new(alloc),
+        };
+        let mut words = words.iter();
+        while let Some(word) = words.next() {
+            let word = word.as_str();
+            if takes.options.contains(&word) {
+                let value = words.next().context("the last option has no value")?;
+                parsed.options.push((word, value.as_str()))?;
+            } else {
+                ensure!(!word.starts_with("--"), "unknown option '{word}'");
+                ensure!(
+                    parsed.others.len() < takes.others,
+                    "one word too many: '{word}'"
+                );
+                parsed.others.push(word)?;
             }
         }
+        Ok(parsed)
     }
-    if needs_value {
-        bail!("the last option has no value");
-    }
-    Ok(())
-}
 
-// The same for a command without options.
-pub fn check_plain(words: &[String], most: usize) -> anyhow::Result<()> {
-    for (i, word) in words.iter().enumerate() {
-        let text = word.as_str();
-        if text.starts_with("--") {
-            bail!("unknown option '{text}'");
-        }
-        if i >= most {
-            bail!("one word too many: '{text}'");
-        }
+    // The value of an option, if it was given; of several the last.
+    pub fn option(&self, name: &str) -> Option<&'a str> {
+        self.options
+            .iter()
+            .rev()
+            .find(|(given, _)| *given == name)
+            .map(|(_, value)| *value)
     }
-    Ok(())
-}
 
-// The value of an option, if it was given; of several the last.
-pub fn option<'a>(words: &'a [String], options: &[&str], name: &str) -> Option<&'a str> {
-    let mut found = None;
-    let mut wanted = false;
-    let mut needs_value = false;
-    for word in words {
-        let text = word.as_str();
-        if needs_value {
-            needs_value = false;
-            if wanted {
-                found = Some(text);
-            }
-        } else if is_option(text, options) {
-            needs_value = true;
-            wanted = text == name;
+    // The same, read as a T, or else the usual one.
+    pub fn parsed<T: FromStr<Err = anyhow::Error> + Default>(
+        &self,
+        name: &str,
+    ) -> anyhow::Result<T> {
+        match self.option(name) {
+            Some(text) => text.parse(),
+            None => Ok(T::default()),
         }
     }
-    found
-}
 
-// The word with this number, from 0, among those that are neither options nor their values.
-pub fn other<'a>(words: &'a [String], options: &[&str], number: usize) -> Option<&'a str> {
-    let mut needs_value = false;
-    let mut at = 0usize;
-    for word in words {
-        let text = word.as_str();
-        if needs_value {
-            needs_value = false;
-        } else if is_option(text, options) {
-            needs_value = true;
-        } else if at == number {
-            return Some(text);
-        } else {
-            at = at.saturating_add(1);
-        }
+    // The word with this number, from 0, among those that are neither options nor their values.
+    pub fn other(&self, at: usize) -> Option<&'a str> {
+        self.others.get(at).copied()
     }
-    None
+
+    // The same, or a complaint that it is missing.
+    pub fn needed(&self, at: usize, what: &str) -> anyhow::Result<&'a str> {
+        let command = self.command;
+        self.other(at).context(format_args!(
+            "the {what} is missing; 'bench {command} --help' says more"
+        ))
+    }
+
+    // The value of a numeric option, or another where it was not given.
+    pub fn number(&self, name: &str, otherwise: u32) -> anyhow::Result<u32> {
+        self.option(name)
+            .map_or(Ok(otherwise), |text| number(text, name))
+    }
+
+    // The name of the format that --format gives, or 8N1.
+    pub fn format_name(&self) -> &'a str {
+        self.option("--format").unwrap_or("8N1")
+    }
+
+    pub fn format(&self) -> anyhow::Result<Format> {
+        let name = self.format_name();
+        format_named(name.as_bytes()).context(format_args!(
+            "--format: '{name}' is no format; 8N1, 7E2 and 8AO1 are some"
+        ))
+    }
 }
 
 // A number: decimal, or hexadecimal with an h behind it.
 pub fn number(text: &str, what: &str) -> anyhow::Result<u32> {
-    let value = match text.strip_suffix("h") {
-        Some(digits) => u32::from_str_radix(digits, 16),
-        None => text.parse::<u32>(),
-    };
-    match value {
-        Ok(value) => Ok(value),
-        Err(_) => bail!("{what}: '{text}' is no number"),
-    }
-}
-
-// The value of a numeric option, or another where it was not given.
-pub fn numeric(
-    words: &[String],
-    options: &[&str],
-    name: &str,
-    otherwise: u32,
-) -> anyhow::Result<u32> {
-    match option(words, options, name) {
-        Some(text) => number(text, name),
-        None => Ok(otherwise),
-    }
-}
-
-// The format that --format names, or 8N1.
-pub fn format(words: &[String], options: &[&str]) -> anyhow::Result<Format> {
-    let name = match option(words, options, "--format") {
-        Some(name) => name,
-        None => "8N1",
-    };
-    match format_named(name.as_bytes()) {
-        Some(format) => Ok(format),
-        None => bail!("--format: '{name}' is no format; 8N1, 7E2 and 8AO1 are some"),
-    }
+    text.strip_suffix("h")
+        .map_or_else(|| text.parse(), |digits| u32::from_str_radix(digits, 16))
+        .context(format_args!("{what}: '{text}' is no number"))
 }

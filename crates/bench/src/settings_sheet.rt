@@ -1,11 +1,13 @@
 // The settings sheet, for the laptop and the format that the words name.
-use super::options::{check_words, format, numeric, option};
-use anyhow::bail;
-use shows::print_sheet;
+use super::options::{Takes, Words};
+use anyhow::ensure;
+use shows::{LAPTOP_HERTZ, print_sheet};
 
-const OPTIONS: [&str; 2] = ["--laptop", "--format"];
-
-const LAPTOP_HERTZ: u32 = 1_843_200;
+const TAKES: Takes = Takes {
+    command: "sheet",
+    options: &["--laptop", "--format"],
+    others: 0,
+};
 
 pub const HELP: &str = "usage: bench sheet [--laptop HERTZ] [--format 8N1]
 
@@ -13,12 +15,12 @@ Prints the settings sheet: for each setting that is built into locks, whether a
 laptop's port may be trusted with it. --laptop is the rate of the clock of the
 laptop's port, 1843200 Hz if it is not given.";
 
-pub fn command(rt: &HostRuntime, words: &[String]) -> anyhow::Result<()> {
-    check_words(words, &OPTIONS, 0)?;
-    let hertz = numeric(words, &OPTIONS, "--laptop", LAPTOP_HERTZ)?;
-    if hertz < 1 || hertz > 16_777_216 {
-        bail!("--laptop: {hertz} Hz is not from 1 to 16777216");
-    }
-    let name = option(words, &OPTIONS, "--format").unwrap_or("8N1");
-    print_sheet(rt, hertz, name, format(words, &OPTIONS)?)
+pub fn command(rt: &(impl Print + AllocGlobal), words: &[String]) -> anyhow::Result<()> {
+    let words = Words::parse(rt.alloc(), TAKES, words)?;
+    let hertz = words.number("--laptop", LAPTOP_HERTZ)?;
+    ensure!(
+        (1..=16_777_216).contains(&hertz),
+        "--laptop: {hertz} Hz is not from 1 to 16777216"
+    );
+    print_sheet(rt, hertz, words.format_name(), words.format()?)
 }

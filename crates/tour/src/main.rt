@@ -3,11 +3,7 @@
 #![tactic(auto)]
 
 use line::{DataBits, Format, Parity, StopBits};
-use shows::{demo, drive, join, print_sheet, print_table};
-
-const SAMPLE: &str = "2026-11-17 08:59 opened, key 4";
-
-const LAPTOP_HERTZ: u32 = 1_843_200;
+use shows::{LAPTOP_HERTZ, SAMPLE, demo, drive, join, print_sheet, print_table};
 
 fn main(rt: HostRuntime) -> anyhow::Result<()> {
     let format = Format {

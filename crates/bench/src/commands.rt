@@ -1,0 +1,129 @@
+// The commands of the bench, each by its word, and what it does.
+use super::options::{Takes, Words};
+use super::{capture, drawing, fitting, settings_sheet};
+use anyhow::bail;
+use shows::SAMPLE;
+use std::rt::Files;
+use std::str::FromStr;
+
+// What a command without options takes.
+pub const PLAIN: Takes = Takes {
+    command: "",
+    options: &[],
+    others: 0,
+};
+
+pub const HELP: &str = "usage: bench [WORD ..]
+
+  sheet   the settings sheet: which settings may be built into a lock, and how
+          far the clock of a laptop may be off
+  fit     whether one pair of ends fits at a pair of rates
+  draw    a text as a port puts it on the line
+  scan    a capture of a line, for its characters and their flags
+  table   the settings that are built into locks, each with the baud rate that
+          it truly gives and how far that is from the nominal one
+  demo    draws a lock's record, scans it back, spoils it and scans it again
+  link    joins the lock to a laptop and hands a record over clock by clock
+  chip    drives a chip register by register, as firmware does
+
+'bench WORD --help' says more of a word. demo and link take a record, a line of
+text in quotes, or else a sample. Without a word bench does table, demo and link.";
+
+const DEMO_HELP: &str = "usage: bench demo [RECORD]
+
+Draws a lock's record, a line of text, level by level as the lock's port sends
+it, scans the picture back, then spoils the picture in two places and tells which
+characters carry which flags.";
+
+const LINK_HELP: &str = "usage: bench link [RECORD]
+
+Joins the lock to a laptop, asks whether their rates fit, and hands a record over
+clock by clock; then the same with a laptop whose clock is off.";
+
+const TABLE_HELP: &str = "usage: bench table
+
+Prints the settings that are built into locks, each with the baud rate that it
+truly gives over a frame of ten bits and how far that is from the nominal one.";
+
+const CHIP_HELP: &str = "usage: bench chip
+
+Sets a chip up register by register, as firmware does, releases it, and has it hear
+a character of its own; each access to a register is shown.";
+
+#[derive(Clone, Copy)]
+pub enum Command {
+    Sheet,
+    Fit,
+    Draw,
+    Scan,
+    Table,
+    Demo,
+    Link,
+    Chip,
+}
+
+impl FromStr for Command {
+    type Err = anyhow::Error;
+
+    fn from_str(word: &str) -> anyhow::Result<Command> {
+        match word {
+            "sheet" => Ok(Command::Sheet),
+            "fit" => Ok(Command::Fit),
+            "draw" => Ok(Command::Draw),
+            "scan" => Ok(Command::Scan),
+            "table" => Ok(Command::Table),
+            "demo" => Ok(Command::Demo),
+            "link" => Ok(Command::Link),
+            "chip" => Ok(Command::Chip),
+            _ => bail!("unknown word '{word}'; 'bench --help' says which there are"),
+        }
+    }
+}
+
+impl Command {
+    pub fn help(self) -> &'static str {
+        match self {
+            Command::Sheet => settings_sheet::HELP,
+            Command::Fit => fitting::HELP,
+            Command::Draw => drawing::HELP,
+            Command::Scan => capture::HELP,
+            Command::Table => TABLE_HELP,
+            Command::Demo => DEMO_HELP,
+            Command::Link => LINK_HELP,
+            Command::Chip => CHIP_HELP,
+        }
+    }
+
+    // Does what the command is for, with the words behind it.
+    pub fn run(
+        self,
+        rt: &(impl Files + Input + Print + Eprint + AllocGlobal),
+        words: &[String],
+    ) -> anyhow::Result<()> {
+        match self {
+            Command::Sheet => settings_sheet::command(rt, words),
+            Command::Fit => fitting::command(rt, words),
+            Command::Draw => drawing::command(rt, words),
+            Command::Scan => capture::command(rt, words),
+            Command::Table => {
+                Words::parse(rt.alloc(), PLAIN, words)?;
+                Ok(shows::print_table(rt)?)
+            }
+            Command::Chip => {
+                Words::parse(rt.alloc(), PLAIN, words)?;
+                Ok(shows::drive(rt)?)
+            }
+            Command::Demo => shows::demo(rt, record(words)?),
+            Command::Link => shows::join(rt, record(words)?),
+        }
+    }
+}
+
+// The record that a demonstration takes: any word, or a sample.
+fn record<'a>(words: &'a [String]) -> anyhow::Result<&'a str> {
+    match words {
+        [] => Ok(SAMPLE),
+        [word] => Ok(word.as_str()),
+        _ => bail!("too many words; put a record in quotes"),
+    }
+}
