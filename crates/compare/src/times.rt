@@ -65,10 +65,8 @@ impl Gear {
 // The distance of a USART's outer samples from the middle one: a thirty-second of the largest power of two that is not above
 // the bit's clocks, and at least 1.
 fn spread(clocks: u32) -> u32 {
-    match clocks.checked_ilog2() {
-        Some(power) if power > 5 => 1 << (power - 5),
-        _ => 1,
-    }
+    let power = (clocks / 2 + 1).next_power_of_two();
+    (power / 32).max(1)
 }
 
 // An end of a line: a format, and the times that its settings give.
