@@ -11,22 +11,24 @@ use ends::{Kind, Timing};
 use line::{DataBits, Format, Parity, Refusal, StopBits};
 use usart::{Settings, Usart};
 
+// 8 data bits, no parity, one stop bit.
+pub const FORMAT: Format = Format {
+    size: DataBits::Eight,
+    address: false,
+    parity: Parity::Absent,
+    stops: StopBits::One,
+};
+
 pub const CLOCK_HERTZ: u32 = 32768;
 
 pub const DIVIDER: u16 = 6;
 
 pub const MODULATOR: u8 = 0x6f;
 
-// 8 data bits, no parity, one stop bit, at the watch crystal's rate.
+// The times of the lock's port, at the watch crystal's rate.
 pub fn lock_timing() -> Result<Timing, Refusal>
     ensures times { answered result ≡ Ok (usart_times eight_n_one 6 0x6f) }
     ensures worked { Worked }
 {
-    let format = Format {
-        size: DataBits::Eight,
-        address: false,
-        parity: Parity::Absent,
-        stops: StopBits::One,
-    };
-    Usart::timing(format, Settings::new(DIVIDER, MODULATOR)?)
+    Usart::timing(FORMAT, Settings::new(DIVIDER, MODULATOR)?)
 }
