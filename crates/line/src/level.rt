@@ -45,16 +45,4 @@ impl Level {
             _ => Level::Mark,
         }
     }
-
-    pub fn byte(self) -> u8
-        ensures { result ≡ byte_of self }
-    {
-        u8::from(self)
-    }
-
-    pub fn from_byte(byte: u8) -> Result<Level, Refusal>
-        ensures { result ≡ level_of_byte byte }
-    {
-        Level::try_from(byte)
-    }
 }

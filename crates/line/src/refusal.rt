@@ -45,11 +45,3 @@ impl From<Refusal> for u8 {
         }
     }
 }
-
-impl Refusal {
-    pub fn number(self) -> u8
-        ensures { result ≡ number_of self }
-    {
-        u8::from(self)
-    }
-}

@@ -2,17 +2,11 @@
 
 #![tactic(auto)]
 
-use line::{DataBits, Format, Parity, StopBits};
+use lock::FORMAT;
 use shows::{LAPTOP_HERTZ, SAMPLE, demo, drive, join, print_sheet, print_table};
 
 fn main(rt: HostRuntime) -> anyhow::Result<()> {
-    let format = Format {
-        size: DataBits::Eight,
-        address: false,
-        parity: Parity::Absent,
-        stops: StopBits::One,
-    };
-    print_sheet(&rt, LAPTOP_HERTZ, "8N1", format)?;
+    print_sheet(&rt, LAPTOP_HERTZ, "8N1", FORMAT)?;
     println!(rt; "")?;
     print_table(&rt)?;
     println!(rt; "")?;
