@@ -1,26 +1,13 @@
 use Rattle.std.proofs.Common.{◌≡◌, ℕ, ◌+◌, ◌^◌, ◌<◌, subst, arith, w32, Fits, rules}
-use Rattle.ends.specs.declared.bare_receiver.BareReceiver.{BareReceiver}
 use Rattle.ends.specs.declared.doing.Doing.{Doing}
-use Rattle.ends.specs.declared.doing.Doing.TheVariants.{Framing, Counting}
-use Rattle.ends.specs.Samples.{taken_by, due_by, spaces_by}
+use Rattle.ends.specs.declared.doing.Doing.TheVariants.{Framing}
+use Rattle.ends.specs.Samples.{taken_by, due_by}
 use Rattle.ends.specs.Timed.{sample_clocks}
 use Rattle.ends.proofs.Sampling.{clock_early}
 use Rattle.ends.proofs.receiving.BareReceiverReceiver.clock.Goals as goal
 
 fits_below : (n : ℕ) → n < 2 ^ 32 → Fits w32 n
 fits_below n h = search rules
-
--- fewer spaces than make a break have been counted
-counted : (r : BareReceiver) (n : ℕ) → r.doing ≡ Counting n → Fits w32 (n + 1)
-counted r n e =
-    let h : n < r.timing.break_length = subst (λ (d : Doing). spaces_by d < r.timing.break_length) e r.unbroken in
-    fits_below (n + 1) (omega (arith, h, r.timing.brief))
-
-pub overflow_add-spaces : goal.overflow_add-spaces
-overflow_add-spaces c = counted c.args.self.now c.in-Counting-Space-Space.spaces c.in-Counting-Space-Space.is-0
-
-pub overflow_add-spaces-then-spaces-timing : goal.overflow_add-spaces-then-spaces-timing
-overflow_add-spaces-then-spaces-timing c = counted c.args.self.now c.in-Counting-Space-Space.spaces c.in-Counting-Space-Space.is-0
 
 pub overflow_add-clock : goal.overflow_add-clock
 overflow_add-clock c =

@@ -1,13 +1,11 @@
-use Rattle.std.proofs.Common.{◌≡◌, ℕ, suc, ◌+◌, ◌-◌, ◌*◌, ◌^◌, ◌<◌, ◌≤◌, List, [], ◌∷◌, get_or, drop, sym, ap, ◌∙◌, pow-suc, arith}
-use Rattle.std.proofs.lemmas.Nat.{pow_pos}
-use Rattle.std.proofs.lemmas.List.{drop_all}
+use Rattle.std.proofs.Common.{◌≡◌, ℕ, suc, ◌+◌, ◌-◌, ◌*◌, ◌^◌, ◌<◌, ◌≤◌, ◌∷◌, get_or, drop, sym, ap, ◌∙◌, pow-suc, arith}
 use Rattle.line.specs.declared.level.Level.{Level}
 use Rattle.line.specs.declared.level.Level.TheVariants.{Space, Mark}
 use Rattle.line.specs.Levels.{number, byte_of}
 use Rattle.ends.specs.declared.samples.Samples.{Samples}
 use Rattle.ends.specs.Receiver.{majority, decided}
 use Rattle.ends.specs.Samples.{taken}
-use Rattle.ends.proofs.Sampling.{decided_more, taken_length}
+use Rattle.ends.proofs.Sampling.{decided_more}
 use Rattle.ends.proofs.samples.Samples.digits.Goals as goal
 
 -- a turn of the loop: the bit below comes in as the lowest digit
@@ -30,12 +28,6 @@ turn s bits k d b count some most is value bound =
     digit_most : (b : Level) → byte_of b ≤ 1
     digit_most Space = omega arith
     digit_most Mark = omega arith
-
-pub loop-k-init : goal.loop-k-init
-loop-k-init c =
-    let s = c.args.self.now in
-    let none : drop (3 * c.args.bits) (taken s) ≡ [] = drop_all (3 * c.args.bits) (taken s) (omega (arith, c.requires, taken_length s)) in
-    (sym (ap (λ (l : List Level). number (decided l)) none), pow_pos (c.args.bits - c.args.bits))
 
 pub loop-k-preserved : goal.loop-k-preserved
 loop-k-preserved c =

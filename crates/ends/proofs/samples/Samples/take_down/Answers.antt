@@ -9,7 +9,6 @@ use Rattle.ends.specs.declared.timing.Timing.{Timing}
 use Rattle.ends.specs.Receiver.{falling_on, falling_before, taken_now}
 use Rattle.ends.specs.Timed.{sample_clocks}
 use Rattle.ends.specs.Samples.{taken}
-use Rattle.ends.specs.Soundness.{clocks_length, samples_used}
 use Rattle.ends.proofs.Sampling.{clocks_rising, none_from, on_after_before, one_on, over_clock}
 use Rattle.ends.proofs.samples.Samples.take_down.Goals as goal
 
@@ -41,13 +40,6 @@ all_taken t n k i before now l e from off inv =
     let none : falling_on n (drop k ss) ≡ 0 = none_from n ss (clocks_rising t) k past in
     let all : falling_on n (drop i ss) ≡ falling_on n ss = ap (λ (m : ℕ). falling_on n (drop m ss)) e ∙ on_after_before n ss (clocks_rising t) in
     sym (append-nil now) ∙ sym (ap {B = List Level} (λ m. now ++ replicate m l) none) ∙ inv ∙ ap {B = List Level} (λ m. before ++ replicate m l) all
-
-pub push-requires : goal.push-requires
-push-requires c =
-    let t = c.args.timing.now in
-    let k : ℕ = c.loop-level.self.count in
-    let on = on_clock (sample_clocks t) k c.args.clock (tested (sample_clocks t) k c.args.clock c.sample.result c.eq.result true c.sample.ensures c.eq.ensures c.loop-level-test.true) in
-    omega (arith, on.0, clocks_length t, samples_used t)
 
 pub loop-level-preserved : goal.loop-level-preserved
 loop-level-preserved c =

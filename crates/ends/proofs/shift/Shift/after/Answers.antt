@@ -1,22 +1,18 @@
-use Rattle.std.proofs.Common.{◌+◌, ◌<◌, length, ◌∙◌, arith, rules}
+use Rattle.std.proofs.Common.{◌+◌, ◌<◌, length, ◌∙◌, rules}
 use Rattle.line.specs.Frames.{frame_bits}
 use Rattle.ends.proofs.Shifting.{next_bit, no_bit}
 use Rattle.ends.proofs.shift.Shift.after.Goals as goal
 
-pub returns-then-next-bits : goal.returns-then-next-bits
-returns-then-next-bits c =
+pub returns-then-next-bits-clause-levels : goal.returns-then-next-bits-clause-levels
+returns-then-next-bits-clause-levels c =
     let t = c.args.timing.now in
     let s = c.args.self in
-    record { levels = no_bit t.format t.lengths s.digits s.bit s.clocks c.requires.1 c.if-self-gt1.false (c.if-next-bits.true ∙ c.bits.ensures); bit = omega arith; clocks = omega arith }
+    no_bit t.format t.lengths s.digits s.bit s.clocks c.requires.1 c.if-self-gt1.false (c.if-next-bits.true ∙ c.bits.ensures)
 
-pub returns : goal.returns
-returns c =
+pub returns-clause-levels : goal.returns-clause-levels
+returns-clause-levels c =
     let t = c.args.timing.now in
     let s = c.args.self in
     let more : s.bit + 1 < frame_bits t.format = search rules in
     let within : s.bit + 1 < length t.lengths = search rules in
-    record {
-      levels = next_bit t.format t.lengths s.digits s.bit s.clocks c.requires.1 c.if-self-gt1.false more within;
-      bit = more;
-      clocks = t.lasting (s.bit + 1) (omega (arith, t.thirteen));
-    }
+    next_bit t.format t.lengths s.digits s.bit s.clocks c.requires.1 c.if-self-gt1.false more within
