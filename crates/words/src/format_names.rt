@@ -1,5 +1,5 @@
 // The names of formats, as 8N1: data bits, an A where there is an address bit, parity, stop bits.
-ghost use Rattle.std.specs.Prelude.{◌≡◌, cond, [], ◌∷◌, ◌++◌, MatchOption, ◌≢◌};
+ghost use Rattle.std.specs.Prelude.{◌≡◌, ◌≢◌, MatchOption};
 ghost use Rattle.line.specs.declared.format.DataBits.{DataBits};
 ghost use Rattle.line.specs.declared.format.Format.{Format};
 ghost use Rattle.line.specs.declared.format.Parity.{Parity};

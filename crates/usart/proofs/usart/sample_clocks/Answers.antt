@@ -1,6 +1,6 @@
 -- One more bit is sampled after those before it.
 use Rattle.std.proofs.Common.{◌≡◌, ◌*◌, ◌≤◌, length, get_or, sym, ap, ◌∙◌, arith, rules}
-use Rattle.std.proofs.lemmas.List.{places, take_all}
+use Rattle.std.proofs.lemmas.List.{places}
 use Rattle.usart.specs.Usart.{samples, bit_samples}
 use Rattle.usart.proofs.Samples.{start_more, samples_more}
 use Rattle.usart.proofs.usart.sample_clocks.Goals as goal
@@ -15,10 +15,3 @@ loop-k-preserved c =
       omega arith,
       search (rules, places),
     )
-
-pub returns : goal.returns
-returns c =
-    let ns = c.args.lengths.now in
-    let k : c.loop-k.k ≡ 12 = omega arith in
-    let whole : length c.loop-k.clocks ≤ 3 * c.loop-k.k = omega arith in
-    sym (take_all _ _ whole) ∙ c.loop-k.invariant.0 ∙ ap (λ l. samples 0 l) (take_all c.loop-k.k ns (omega arith))

@@ -7,15 +7,12 @@ use Rattle.usart.proofs.Samples.{bit_lasting}
 use Rattle.usart.proofs.Table.{frame_samples, inside_used, centred_used, sampled}
 use Rattle.usart.proofs.usart.UsartKind.timing.Goals as goal
 
-pub sample_clocks-requires : goal.sample_clocks-requires
-sample_clocks-requires c =
+pub sample_clocks-requires-clause-lasting : goal.sample_clocks-requires-clause-lasting
+sample_clocks-requires-clause-lasting c =
     let s = c.args.settings in
     let ns = c.bit_lengths-lengths.result in
     let each = bit_lasting s.divider s.modulator 13 ns c.bit_lengths-lengths.ensures s.least (omega arith) in
-    record {
-      twelve = search rules;
-      lasting = λ k h. rw (get_or-take 12 ns k 0 h) (each k (omega arith));
-    }
+    λ k h. rw (get_or-take 12 ns k 0 h) (each k (omega arith))
 
 pub invariant_of-result : goal.invariant_of-result
 invariant_of-result c =
