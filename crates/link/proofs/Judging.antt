@@ -42,9 +42,9 @@ module _ (s : SenderState) (r : ReceiverState) (a b : ℕ) where
   good_from : (n k : ℕ) → judged s r a b k n ≡ Passes → (j : ℕ) → k ≤ j → j < k + n → (Early s r a b j → ⊥) × (Late s r a b j → ⊥)
   good_from zero k e j low high = absurd (omega arith)
   good_from (suc n) k e j low high = ⊎_elim
-      (λ (x : first_sample r k * a < start_of s.lengths k * b). absurd (let z : IsEarly k ≡ Passes = sym (bit_early k n x) ∙ e in let q : ◌≡◌ {A = ℕ} 0 1 = cc in omega arith))
+      (λ (x : first_sample r k * a < start_of s.lengths k * b). absurd (let z : IsEarly k ≡ Passes = sym (bit_early k n x) ∙ e in cc))
       (λ (x : start_of s.lengths k * b ≤ first_sample r k * a). ⊎_elim
-      (λ (y : start_of s.lengths (k + 1) * b < (third_sample r k + 1) * a). absurd (let z : IsLate k ≡ Passes = sym (bit_late k n x y) ∙ e in let q : ◌≡◌ {A = ℕ} 0 1 = cc in omega arith))
+      (λ (y : start_of s.lengths (k + 1) * b < (third_sample r k + 1) * a). absurd (let z : IsLate k ≡ Passes = sym (bit_late k n x y) ∙ e in cc))
       (λ (y : (third_sample r k + 1) * a ≤ start_of s.lengths (k + 1) * b). ⊎_elim
       (λ (more : k < j). good_from n (k + 1) (sym (bit_good k n x y) ∙ e) j (omega arith) (omega arith))
       (λ (here : j ≤ k). let at : j ≡ k = omega arith in

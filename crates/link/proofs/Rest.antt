@@ -1,6 +1,8 @@
 -- A quiet link is at rest: the line is at mark, and the receiver is outside a frame.
-use Rattle.std.proofs.Common.{◌≡◌, ℕ, zero, suc, ◌+◌, ◌<◌, ◌≤◌, Bool, true, false, cond, ltb, leb, List, [], ◌∷◌, ◌++◌, length, get_or, take, replicate, sym, refl, ap, ◌∙◌, subst, ⊎_elim, le_of_suc-le-suc, not-suc-le-zero, arith, length-append}
+use Rattle.std.proofs.Common.{◌≡◌, ℕ, zero, suc, ◌+◌, ◌<◌, ◌≤◌, Bool, true, false, cond, ltb, leb, List, [], ◌∷◌, length, get_or, take, replicate, sym, refl, ap, ◌∙◌, subst, ⊎_elim, le_of_suc-le-suc, not-suc-le-zero, arith, length-append}
 use lib.ListN.{length-replicate}
+use Rattle.std.specs.List.{fold}
+use Rattle.std.proofs.lemmas.List.Sums.{fold-append}
 use Rattle.std.proofs.lemmas.Bool.{cases_lt, cases_Bool, leb-false}
 use Rattle.line.specs.declared.level.Level.{Level}
 use Rattle.line.specs.declared.level.Level.TheVariants.{Space, Mark}
@@ -15,16 +17,11 @@ use Rattle.line.proofs.Bits.{front, frame_front, frame_fits}
 use Rattle.ends.proofs.Sampling.{before_zero, before_more, decided_length, all_by_last}
 
 pub mark_not_space : Mark ≡ Space → ⊥
-mark_not_space e = let z : ◌≡◌ {A = ℕ} 0 1 = cc in omega arith
+mark_not_space e = cc
 
 -- the level after which none is left
 abbrev pub last_level : Level → List Level → Level
-last_level l [] = l
-last_level l (x ∷ xs) = last_level x xs
-
-last_append : (l : Level) (xs ys : List Level) → last_level l (xs ++ ys) ≡ last_level (last_level l xs) ys
-last_append l [] ys = refl
-last_append l (x ∷ xs) ys = last_append x xs ys
+last_level l xs = fold (λ _ x. x) l xs
 
 last_replicate : (l b : Level) (n : ℕ) → 0 < n → last_level l (replicate n b) ≡ b
 last_replicate l b zero h = absurd (not-suc-le-zero h)
@@ -37,7 +34,7 @@ last_held l [] [] fits long = refl
 last_held l (n ∷ ns) [] fits long = refl
 last_held l [] (b ∷ bs) fits long = absurd (not-suc-le-zero fits)
 last_held l (n ∷ ns) (b ∷ bs) fits long =
-    last_append l (replicate n b) (held ns bs)
+    fold-append (λ _ x. x) l (replicate n b) (held ns bs)
     ∙ ap (λ (x : Level). last_level x (held ns bs)) (last_replicate l b n (long 0 (omega arith)))
     ∙ last_held b ns bs (le_of_suc-le-suc fits) (λ k h. long (suc k) (omega arith))
 
@@ -56,7 +53,7 @@ frame_ends s ok c =
     last_first (frame_levels s c)
     ∙ last_held Mark s.lengths (frame f c) (omega (arith, fits, ok.thirteen)) (λ k h. ok.lasting k (omega arith))
     ∙ ap (λ (l : List Level). last_level Mark l) (frame_front f c)
-    ∙ last_append Mark (front f c) (replicate (stop_count f.stops) Mark)
+    ∙ fold-append (λ _ x. x) Mark (front f c) (replicate (stop_count f.stops) Mark)
     ∙ last_stops (last_level Mark (front f c)) f.stops
 
 -- what the levels given, the newest first, say of a receiver

@@ -30,7 +30,7 @@ load_narrow : (s : SenderState) (c : ℕ) (x : Unit {0}) → load_answer s c ≡
 load_narrow s c x e = go (leb (2 ^ width s.format) c) refl
   where
     go : (b : Bool) → leb (2 ^ width s.format) c ≡ b → c < 2 ^ width s.format
-    go true t = absurd (let z : ◌≡◌ {A = ℕ} 0 1 = cc in omega arith)
+    go true t = cc
     go false t = leb-false (2 ^ width s.format) c t
 
 module _ (m : LinkState) (oks : SoundSender m.sender) (okr : SoundReceiver m.receiver) where
