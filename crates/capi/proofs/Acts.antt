@@ -1,6 +1,6 @@
 -- One act more of a run, by plain numbers.
 use Rattle.std.proofs.Common.{◌≡◌, ℕ, zero, suc, ◌+◌, ◌<◌, ◌≤◌, List, [], ◌∷◌, ◌++◌, map, length, get_or, take, drop, set, IfOk, Ok, Err, Result, sym, refl, ap, ◌∙◌, arith}
-use Rattle.std.proofs.lemmas.List.{append_assoc, take_more, drop_more, length-take-le, set_at, take_all}
+use Rattle.std.proofs.lemmas.List.{append_assoc, take_more, drop_more, length-take-le, set_at}
 use Rattle.link.specs.Link.{LinkState, after_act, after}
 use Rattle.line.specs.declared.refusal.Refusal.{Refusal}
 use Rattle.link.specs.declared.act.Act.{Act}
@@ -59,12 +59,6 @@ module _ (m : LinkState) (acts : List ActNumbers) (i : ℕ) where
       ap {B = List AnswerNumbers} (λ l. set l i r) (n ∙ ap {B = List AnswerNumbers} (λ l. so_far ++ l) (drop_more old i r room))
       ∙ set_at so_far (get_or old i r) (drop (i + 1) old) r i size
       ∙ sym (append_assoc so_far (r ∷ []) (drop (i + 1) old)) ∙ ap {B = List AnswerNumbers} (λ l. l ++ drop (i + 1) old) (sym step)
-
-  pub answers_all : (old was : List AnswerNumbers) → length acts ≤ i → i ≤ length acts → was ≡ told_answers m (take i acts) ++ drop i old
-      → was ≡ told_answers m acts ++ drop (length acts) old
-  answers_all old was over most e =
-      let k : i ≡ length acts = omega arith in
-      e ∙ ap {B = List AnswerNumbers} (λ xs. told_answers m xs ++ drop i old) (take_all i acts over) ∙ ap {B = List AnswerNumbers} (λ n. told_answers m acts ++ drop n old) k
 
 -- a link that was joined at rest delivers, whatever the acts
 pub delivering : (r : Result LinkState Refusal) (acts : List Act) → IfOk r (λ m. Delivers m acts)

@@ -1,5 +1,5 @@
 -- The format that has these plain numbers, and the times of an end that has them.
-use Rattle.std.proofs.Common.{◌≡◌, ℕ, ◌<◌, ◌≤◌, Bool, true, false, cond, eqb, leb, IfOk, Ok, Err, Result, sym, refl, ap, ◌∙◌, subst, ap₂, MatchResult}
+use Rattle.std.proofs.Common.{◌≡◌, ℕ, ◌<◌, ◌≤◌, Bool, true, false, cond, eqb, leb, Ok, Err, Result, sym, refl, ap, ◌∙◌, ap₂, MatchResult}
 use Rattle.std.proofs.lemmas.Bool.{eqb-true, le-leb, lt-leb}
 use Rattle.line.specs.declared.refusal.Refusal.{Refusal}
 use Rattle.line.specs.declared.refusal.Refusal.TheVariants.{OutOfRange}
@@ -111,11 +111,3 @@ pub in_range : (e : EndNumbers) (f : Format) → Numbers f e.data_bits e.address
     → end_times e ≡ Ok (usart_times f e.divider e.modulator)
 in_range e f h enough =
     at_format e f h ∙ ap {B = Found} (λ b. cond b (Ok (usart_times f e.divider e.modulator)) (Err OutOfRange)) (le-leb 3 e.divider enough)
-
--- what holds of the times of an end, or of two
-pub of_one : (Q : Times → Type 0) (r : Found) (t : Times) → Ok t ≡ r → Q t → IfOk r Q
-of_one Q r t is h = subst (λ (x : Found). IfOk x Q) is h
-
-pub of_two : (Q : Times → Times → Type 0) (r s : Found) (t u : Times) → Ok t ≡ r → Ok u ≡ s → Q t u
-    → IfOk r (λ x. IfOk s (Q x))
-of_two Q r s t u first second h = of_one (λ x. IfOk s (Q x)) r t first (of_one (Q t) s u second h)

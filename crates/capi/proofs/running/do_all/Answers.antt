@@ -1,5 +1,5 @@
 use Rattle.std.proofs.Common.{arith}
-use Rattle.capi.proofs.Acts.{passed, state_more, answers_more, answers_all}
+use Rattle.capi.proofs.Acts.{passed, state_more, answers_more}
 use Rattle.capi.proofs.running.do_all.Goals as goal
 
 pub do_one-requires : goal.do_one-requires
@@ -12,6 +12,3 @@ loop-i-preserved g c =
       answers_more _ acts c.loop-i.i _ _ c.args.answers.now c.loop-i.answers c.do_one.result c.loop-i-test.true (omega arith) c.loop-i.invariant.0
           c.do_one.ensures.answer c.loop-i.invariant.1,
     )
-
-pub returns : goal.returns
-returns g c = answers_all _ c.args.acts.now c.loop-i.i c.args.answers.now c.loop-i.answers c.loop-i-test.false (omega arith) c.loop-i.invariant.1

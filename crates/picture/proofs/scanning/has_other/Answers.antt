@@ -1,5 +1,5 @@
 -- The largest byte is above 1 where some byte is.
-use Rattle.std.proofs.Common.{◌≡◌, ℕ, max, Bool, false, ◌||◌, ltb, List, [], ◌∷◌, fold, sym, ap, ◌∙◌, arith}
+use Rattle.std.proofs.Common.{◌≡◌, ℕ, max, Bool, false, ◌||◌, ltb, List, [], ◌∷◌, fold, ap, ◌∙◌, arith}
 use Rattle.std.specs.List.{list_any}
 use Rattle.std.proofs.lemmas.Bool.Decides.{nat_tests}
 use Rattle.picture.proofs.scanning.has_other.Goals as goal
