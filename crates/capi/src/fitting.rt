@@ -36,8 +36,8 @@ fn fit_at(sender: &EndNumbers, receiver: &EndNumbers, rates: Rates) -> Result<Ve
     ensures exactly { Exactly sender.now receiver.now rates.send rates.receive result }
     ensures delivers { Delivering sender.now receiver.now rates.send rates.receive result }
 {
-    let (sends, receives) = bare_ends(sender, receiver)?;
-    fit(&sends, &receives, rates)
+    let (sends, receives) = &bare_ends(sender, receiver)?;
+    fit(sends, receives, rates)
 }
 
 impl From<Verdict> for VerdictNumbers {

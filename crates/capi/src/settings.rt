@@ -24,7 +24,6 @@ impl EndNumbers {
 }
 
 // A bare sender and a bare receiver with these numbers.
-#[inline(always)]
 pub(crate) fn bare_ends(
     sender: &EndNumbers,
     receiver: &EndNumbers,
