@@ -43,7 +43,7 @@ LINES = {
 
 def sources(root):
     for folder, _, files in sorted(os.walk(os.path.join(root, "crates"))):
-        if os.sep + "src" in folder:
+        if os.sep + "src" in folder and os.sep + "out" not in folder:
             for name in sorted(files):
                 if name.endswith(".rt"):
                     path = os.path.join(folder, name)
@@ -131,7 +131,7 @@ def together(root):
 def answers(root):
     for folder, _, files in sorted(os.walk(os.path.join(root, "crates"))):
         for name in files:
-            if os.sep + "proofs" in folder and name.endswith(".antt"):
+            if os.sep + "proofs" in folder and os.sep + "out" not in folder and name.endswith(".antt"):
                 path = os.path.join(folder, name)
                 for n, line in enumerate(open(path, encoding="utf-8"), 1):
                     if re.match(r"(pub )?[\w'-]+ : ", line):
