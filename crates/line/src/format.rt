@@ -9,21 +9,21 @@ use super::refusal::Refusal;
 
 #[derive(Clone, Copy, PartialEq, Eq, Debug)]
 pub enum DataBits {
-    Seven,
-    Eight,
+    Seven = 7,
+    Eight = 8,
 }
 
 #[derive(Clone, Copy, PartialEq, Eq, Debug)]
 pub enum Parity {
-    Absent,
-    Odd,
-    Even,
+    Absent = 0,
+    Odd = 1,
+    Even = 2,
 }
 
 #[derive(Clone, Copy, PartialEq, Eq, Debug)]
 pub enum StopBits {
-    One,
-    Two,
+    One = 1,
+    Two = 2,
 }
 
 #[derive(Clone, Copy, PartialEq, Eq, Debug)]
@@ -33,6 +33,14 @@ pub struct Format {
     pub address: bool,
     pub parity: Parity,
     pub stops: StopBits,
+}
+
+impl From<DataBits> for u8 {
+    ghost from_gives = { λ size count. count ≡ data_count size };
+
+    fn from(size: DataBits) -> u8 {
+        size as u8
+    }
 }
 
 impl TryFrom<u8> for DataBits {
@@ -46,6 +54,14 @@ impl TryFrom<u8> for DataBits {
             8 => Ok(DataBits::Eight),
             _ => Err(Refusal::OutOfRange),
         }
+    }
+}
+
+impl From<StopBits> for u8 {
+    ghost from_gives = { λ stops count. count ≡ stop_count stops };
+
+    fn from(stops: StopBits) -> u8 {
+        stops as u8
     }
 }
 
@@ -79,7 +95,7 @@ impl TryFrom<u8> for StopBits {
     }
 }
 
-// Whether so many address bits are one.
+// Whether so many address bits are one. It is no `TryFrom`, since both that and `bool` are the library's.
 fn address_bit(count: u8) -> Result<bool, Refusal>
     ensures { NumberedBy address_count count result }
 {
@@ -120,11 +136,7 @@ impl Format {
     pub fn width(self) -> usize
         ensures { result ≡ width self }
     {
-        let data = match self.size {
-            DataBits::Seven => 7,
-            DataBits::Eight => 8,
-        };
-        if self.address { data + 1 } else { data }
+        usize::from(u8::from(self.size)) + usize::from(self.address)
     }
 
     // The number of the first stop bit, the start bit being bit 0.
@@ -141,10 +153,7 @@ impl Format {
     pub fn bits(self) -> usize
         ensures { result ≡ frame_bits self }
     {
-        match self.stops {
-            StopBits::One => self.first_stop() + 1,
-            StopBits::Two => self.first_stop() + 2,
-        }
+        self.first_stop() + usize::from(u8::from(self.stops))
     }
 
     // The number of characters: each is below it.

@@ -6,18 +6,15 @@ use super::refusal::Refusal;
 
 #[derive(Clone, Copy, PartialEq, Eq, Debug)]
 pub enum Level {
-    Space,
-    Mark,
+    Space = 0,
+    Mark = 1,
 }
 
 impl From<Level> for u8 {
     ghost from_gives = { λ level byte. byte ≡ byte_of level };
 
     fn from(level: Level) -> u8 {
-        match level {
-            Level::Space => 0,
-            Level::Mark => 1,
-        }
+        level as u8
     }
 }
 
@@ -36,7 +33,7 @@ impl TryFrom<u8> for Level {
 }
 
 impl Level {
-    // The level of a binary digit; what is no digit counts as 1.
+    // The level of a binary digit. It is no `From`, since only 0 and 1 are digits; any other number counts as 1.
     pub fn from_digit(digit: u16) -> Level
         ensures { result ≡ level_of digit }
     {

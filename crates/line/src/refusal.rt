@@ -5,25 +5,25 @@ ghost use Rattle.line.specs.Refusals.{number_of};
 #[derive(Clone, Copy, PartialEq, Eq, Debug)]
 pub enum Refusal {
     // a format, a setting or a rate is out of its range
-    OutOfRange,
+    OutOfRange = 1,
     // a character has more bits than the format
-    TooWide,
+    TooWide = 2,
     // as many characters wait as the sender has room for
-    Full,
+    Full = 3,
     // no received character is unread
-    NothingUnread,
+    NothingUnread = 4,
     // sender and receiver have formats that do not agree
-    FormatsDiffer,
+    FormatsDiffer = 5,
     // a buffer is too short, or more than 4,096 characters are to be drawn
-    TooShort,
+    TooShort = 6,
     // a byte that stands for a level is neither 0 nor 1
-    NotALevel,
+    NotALevel = 7,
     // there is no register at the address
-    NoSuchRegister,
+    NoSuchRegister = 8,
     // the register cannot be written now
-    Closed,
+    Closed = 9,
     // the chip is released from reset with SYNC set
-    SyncSet,
+    SyncSet = 10,
 }
 
 // The number by which programs in other languages know it.
@@ -31,17 +31,6 @@ impl From<Refusal> for u8 {
     ghost from_gives = { λ refusal number. number ≡ number_of refusal };
 
     fn from(refusal: Refusal) -> u8 {
-        match refusal {
-            Refusal::OutOfRange => 1,
-            Refusal::TooWide => 2,
-            Refusal::Full => 3,
-            Refusal::NothingUnread => 4,
-            Refusal::FormatsDiffer => 5,
-            Refusal::TooShort => 6,
-            Refusal::NotALevel => 7,
-            Refusal::NoSuchRegister => 8,
-            Refusal::Closed => 9,
-            Refusal::SyncSet => 10,
-        }
+        refusal as u8
     }
 }
