@@ -1,3 +1,4 @@
+-- The lemmas that several proofs share.
 pub mod Shifting
 pub mod Entries
 pub mod InFrame

@@ -75,13 +75,13 @@ whole_frame f lengths c n size first = from_start (drop 1 (frame f c)) (omega (a
 -- a frame on the line stays there
 pub goes_on : (s : SenderState) (f : Format) (lengths : List ℕ) (o : Option Shift) (w : List ℕ) → is_some o ≡ true → 0 < clocks_of o
     → holding s (left_of f lengths o) w ≡ ready s (left_of f lengths o) w
-goes_on s f lengths None w some h = absurd (let z : ◌≡◌ {A = ℕ} 0 1 = cc in omega arith)
+goes_on s f lengths None w some h = cc
 goes_on s f lengths (Some x) w some h =
     subst (λ (l : List Level). holding s l w ≡ ready s l w) (sym (same_bit f lengths x.digits x.bit x.clocks h)) refl
 
 -- a shift register in use has levels left
 pub something_left : (f : Format) (lengths : List ℕ) (o : Option Shift) → is_some o ≡ true → 0 < clocks_of o → empty (left_of f lengths o) ≡ false
-something_left f lengths None some h = absurd (let z : ◌≡◌ {A = ℕ} 0 1 = cc in omega arith)
+something_left f lengths None some h = cc
 something_left f lengths (Some y) some h = ap empty (same_bit f lengths y.digits y.bit y.clocks h)
 
 -- a bare sender that has nothing to send is in range

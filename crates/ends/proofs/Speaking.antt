@@ -42,7 +42,7 @@ due_one s begun [] (c ∷ cs) =
     (x.0, ap {B = List Level} (λ fs. rest_of f ++ fs) (frames_held s (rest_of f) cs cs) ∙ x.1)
   where
     go : (ls fs : List Level) → Begun ls → (first_of ls ≡ get_or (ls ++ fs) 0 Mark) × (rest_of ls ++ fs ≡ drop 1 (ls ++ fs))
-    go [] fs b = absurd (let z : ◌≡◌ {A = ℕ} 0 1 = cc in omega arith)
+    go [] fs b = cc
     go (x ∷ xs) fs b = (refl, refl)
 
 -- what a clock leaves as it was

@@ -49,4 +49,4 @@ at_rest t = resting (times_of t)
 abbrev pub heard_of : Progress → ℕ → List Level → Heard
 heard_of GoesOn n ls = nothing (framing n ls)
 heard_of FalseStart n ls = nothing idle
-heard_of (Over c flags) n ls = record { doing = after_frame (c, flags); arrived = (c, flags) ∷ [] }
+heard_of (Over e) n ls = record { doing = after_frame e; arrived = e ∷ [] }

@@ -1,3 +1,4 @@
+-- What the contracts cite.
 pub mod Times
 pub mod Timed
 pub mod Sender

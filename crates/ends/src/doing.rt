@@ -17,5 +17,5 @@ pub enum Progress {
     // the start bit was decided as mark
     FalseStart,
     // the first stop bit was decided: the frame's character and flags
-    Over(u16, u8),
+    Over((u16, u8)),
 }

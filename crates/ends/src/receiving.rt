@@ -121,8 +121,7 @@ impl Samples {
         self.take_down(timing, clock, level);
         if self.count == timing.sample_count {
             let digits = self.digits(timing.format.first_stop() + 1);
-            let (character, flags) = entry(timing.format, digits);
-            return Progress::Over(character, flags);
+            return Progress::Over(entry(timing.format, digits));
         }
         if self.is_false_start() {
             return Progress::FalseStart;
@@ -158,11 +157,12 @@ fn unless(holds: bool, flag: u8) -> u8
 }
 
 // The unread entry after this one has arrived: one that was never read leaves its flags.
-fn arrived(unread: Option<(u16, u8)>, character: u16, flags: u8) -> (u16, u8)
-    ensures { result ∷ [] ≡ joined 1 (option_to_list unread) (character, flags) }
+fn arrived(unread: Option<(u16, u8)>, entry: (u16, u8)) -> (u16, u8)
+    ensures { result ∷ [] ≡ joined 1 (option_to_list unread) entry }
 {
+    let (character, flags) = entry;
     match unread {
-        None => (character, flags),
+        None => entry,
         Some((_, lost)) => (character, flags | lost | OVERRUN),
     }
 }
@@ -210,14 +210,14 @@ impl Receiver for BareReceiver {
                 match samples.clock(timing, *clock, level) {
                     Progress::GoesOn => {}
                     Progress::FalseStart => self.doing = Doing::Idle,
-                    Progress::Over(character, flags) => {
-                        let next = if flags < FRAMING {
+                    Progress::Over(entry) => {
+                        let next = if entry.1 < FRAMING {
                             Doing::Idle
                         } else {
                             Doing::Counting { spaces: 0 }
                         };
                         self.doing = next;
-                        self.unread = Some(arrived(self.unread, character, flags));
+                        self.unread = Some(arrived(self.unread, entry));
                     }
                 }
             }
@@ -226,7 +226,7 @@ impl Receiver for BareReceiver {
                     *spaces += 1;
                 } else {
                     self.doing = Doing::Idle;
-                    self.unread = Some(arrived(self.unread, 0, BREAK));
+                    self.unread = Some(arrived(self.unread, (0, BREAK)));
                 }
             }
             (Doing::Counting { .. }, _, Level::Mark) => self.doing = Doing::Idle,

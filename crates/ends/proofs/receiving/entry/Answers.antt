@@ -1,3 +1,4 @@
+-- Character, parity and stop bit by their places among the digits.
 use Rattle.std.proofs.Common.{◌≡◌, ℕ, ◌+◌, ◌/◌, ◌%◌, ◌^◌, List, sym, ap, ◌∙◌, ap₂, if◌then◌else◌, ◌==◌}
 use Rattle.line.specs.declared.level.Level.{Level}
 use Rattle.line.specs.Levels.{low_bits, number}

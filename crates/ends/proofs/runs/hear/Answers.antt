@@ -1,3 +1,4 @@
+-- Frames that are sampled inside their bits arrive.
 use Rattle.ends.proofs.Arriving.{hears_all}
 use Rattle.ends.proofs.runs.hear.Goals as goal
 

@@ -1,3 +1,4 @@
+-- What the receiver comes to by the levels ahead is what it came to by all of them.
 use Rattle.std.proofs.Common.{◌≡◌, drop}
 use Rattle.ends.specs.Runs.{after_levels}
 use Rattle.ends.proofs.runs.hear.Given as goal

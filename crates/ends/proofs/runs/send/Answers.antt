@@ -1,3 +1,4 @@
+-- One more clock writes the next level down, and what is due comes level by level.
 use Rattle.std.proofs.Common.{◌∙◌, arith}
 use Rattle.ends.specs.Sender.{SenderState}
 use Rattle.ends.proofs.Speaking.{sends, frame_begun, one_send, spoken_more}

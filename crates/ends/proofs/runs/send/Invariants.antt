@@ -1,3 +1,4 @@
+-- The places behind have the levels that were spoken, those ahead what they had.
 use Rattle.std.proofs.Common.{◌≡◌, ◌++◌, drop}
 use Rattle.ends.specs.Runs.{after_sends, spoken}
 use Rattle.ends.proofs.runs.send.Given as goal

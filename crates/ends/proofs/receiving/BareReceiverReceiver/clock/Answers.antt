@@ -1,3 +1,4 @@
+-- The clock of a frame that is not over lies before its last sample, so it can be counted on.
 use Rattle.std.proofs.Common.{◌≡◌, ℕ, ◌+◌, ◌^◌, ◌<◌, subst, arith, w32, Fits, rules}
 use Rattle.ends.specs.declared.doing.Doing.{Doing}
 use Rattle.ends.specs.declared.doing.Doing.TheVariants.{Framing}

@@ -1,3 +1,4 @@
+-- A place of the table, or 0 past its end.
 use Rattle.std.proofs.Common.{ap, ◌∙◌, unwrap_or}
 use Rattle.std.proofs.lemmas.Option.{unwrap_or-slice_get}
 use Rattle.ends.proofs.receiving.BareReceiverReceiver.sample_clock.Goals as goal

@@ -1,3 +1,4 @@
+-- A frame begins with the samples of its first clock, all of them space.
 use Rattle.std.proofs.Common.{◌≡◌, ◌≤◌, List, [], take, sym, ap, ◌∙◌, arith}
 use Rattle.line.specs.declared.level.Level.{Level}
 use Rattle.line.specs.declared.level.Level.TheVariants.{Space}

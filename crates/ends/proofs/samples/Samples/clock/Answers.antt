@@ -1,3 +1,4 @@
+-- A clock of a frame that ends it, drops it, or leaves samples to come.
 use Rattle.std.proofs.Common.{◌≡◌, ◌≢◌, ℕ, ◌+◌, ◌<◌, length, sym, ap, ◌∙◌, arith}
 use Rattle.line.specs.declared.level.Level.{Level}
 use Rattle.ends.specs.declared.timing.Timing.{Timing}
@@ -32,9 +33,9 @@ returns-then-self-timing c =
     let all : length (taken u) ≡ samples_per_frame t.format = taken_length u ∙ c.if-self-timing.true ∙ t.counted in
     record {
       taken = c.take_down.ensures;
-      heard = over_by_digits t.format n (taken u) c.entry-character.result c.digits-digits.result all c.digits-digits.ensures.value c.entry-character.ensures;
+      heard = over_by_digits t.format n (taken u) c.entry.result c.digits-digits.result all c.digits-digits.ensures.value c.entry.ensures;
       in_step = in_step t c.args.self.now u n c.args.level c.requires.in_step c.take_down.ensures;
-      unended = λ e. absurd (let z : ◌≡◌ {A = ℕ} 0 1 = cc in omega arith);
+      unended = λ e. cc;
     }
 
 pub returns-then-is_false_start : goal.returns-then-is_false_start

@@ -1,3 +1,4 @@
+-- Each bit comes in below those above it, as the lowest digit.
 use Rattle.std.proofs.Common.{◌≡◌, ℕ, suc, ◌+◌, ◌-◌, ◌*◌, ◌^◌, ◌<◌, ◌≤◌, ◌∷◌, get_or, drop, sym, ap, ◌∙◌, pow-suc, arith}
 use Rattle.line.specs.declared.level.Level.{Level}
 use Rattle.line.specs.declared.level.Level.TheVariants.{Space, Mark}

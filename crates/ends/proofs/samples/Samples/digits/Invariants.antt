@@ -1,3 +1,4 @@
+-- The digits so far are those of the bits above.
 use Rattle.std.proofs.Common.{◌≡◌, ◌-◌, ◌*◌, ◌^◌, ◌<◌, drop}
 use Rattle.line.specs.Levels.{number}
 use Rattle.ends.specs.Receiver.{decided}

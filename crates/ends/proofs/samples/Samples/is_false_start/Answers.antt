@@ -1,3 +1,4 @@
+-- Fewer than three samples decide no start bit.
 use Rattle.std.proofs.Common.{◌∙◌, sym, ap, if◌then◌else◌, arith}
 use Rattle.std.proofs.lemmas.Bool.{lt-leb}
 use Rattle.ends.specs.Receiver.{Doing, idle, framing, going_on}

@@ -1,3 +1,4 @@
+-- A level is taken down for each sample that falls on the clock, and for no other.
 use Rattle.std.proofs.Common.{◌≡◌, ◌≢◌, ℕ, zero, suc, ◌+◌, ◌<◌, ◌≤◌, Bool, true, false, List, [], ◌∷◌, ◌++◌, length, drop, replicate, Some, Option, sym, ap, ◌∙◌, ap₂, arith, nat_eq}
 use Rattle.std.specs.Option.{option_eq}
 use Rattle.std.specs.List.{slice_get}
@@ -17,7 +18,7 @@ falls ss k n = option_eq nat_eq (slice_get ss k) (Some n)
 
 -- sample k falls on clock n
 on_clock : (ss : List ℕ) (k n : ℕ) → falls ss k n ≡ true → (k < length ss) × (slice_index ss k ≡ n)
-on_clock [] k n h = absurd (let z : ◌≡◌ {A = ℕ} 0 1 = cc in omega arith)
+on_clock [] k n h = cc
 on_clock (s ∷ ss) zero n h = (omega arith, grind (arith, nat_tests))
 on_clock (s ∷ ss) (suc k) n h = let x = on_clock ss k n h in (omega (arith, x.0), x.1)
 

@@ -1,3 +1,4 @@
+-- What has been taken down and what is still to be are what fell on the clock from the start.
 use Rattle.std.proofs.Common.{◌≡◌, ◌-◌, ◌≤◌, ◌++◌, drop, replicate}
 use Rattle.ends.specs.Receiver.{falling_on}
 use Rattle.ends.specs.Timed.{sample_clocks}

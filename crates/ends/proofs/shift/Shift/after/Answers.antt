@@ -1,3 +1,4 @@
+-- A bit that is over: the next one, or none.
 use Rattle.std.proofs.Common.{◌+◌, ◌<◌, length, ◌∙◌, rules}
 use Rattle.line.specs.Frames.{frame_bits}
 use Rattle.ends.proofs.Shifting.{next_bit, no_bit}

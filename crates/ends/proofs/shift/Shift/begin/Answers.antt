@@ -1,3 +1,4 @@
+-- A shift register begins with all levels of the frame.
 use Rattle.std.proofs.Common.{ℕ, get_or, refl, ap, ◌∙◌}
 use Rattle.ends.specs.Shifts.{shift_levels}
 use Rattle.ends.proofs.Shifting.{whole_frame}
