@@ -18,7 +18,7 @@ pub record Among (rs : List Row) (r : Row) (c b : ℕ) : Type 0 where
   pub has : Has r c b
 
 pub among : (rs : List Row) (c b : ℕ) (r : Row) → lookup rs c b ≡ Some r → Among rs r c b
-among [] c b r e = absurd (let z : ◌≡◌ {A = ℕ} 0 1 = cc in omega arith)
+among [] c b r e = cc
 among (x ∷ rs) c b r e = ⊎_elim
     (λ (t : same x c b ≡ true).
     let p = and_parts (eqb x.clock c) (eqb x.baud b) t in
@@ -33,9 +33,9 @@ among (x ∷ rs) c b r e = ⊎_elim
 -- where a row has the two, one is found
 pub some_found : (rs : List Row) (c b k : ℕ) → k < length rs → Has (get_or rs k blank) c b → lookup rs c b ≡ None → ⊥
 some_found [] c b k l h e = omega arith
-some_found (x ∷ rs) c b zero l h e = let z : Some x ≡ None = sym (cond-true (same x c b) _ _ (has_same x c b h)) ∙ e in let q : ◌≡◌ {A = ℕ} 0 1 = cc in omega arith
+some_found (x ∷ rs) c b zero l h e = let z : Some x ≡ None = sym (cond-true (same x c b) _ _ (has_same x c b h)) ∙ e in cc
 some_found (x ∷ rs) c b (suc k) l h e = ⊎_elim
-    (λ (t : same x c b ≡ true). let z : Some x ≡ None = sym (cond-true (same x c b) _ _ t) ∙ e in let q : ◌≡◌ {A = ℕ} 0 1 = cc in omega arith)
+    (λ (t : same x c b ≡ true). let z : Some x ≡ None = sym (cond-true (same x c b) _ _ t) ∙ e in cc)
     (λ (t : same x c b ≡ false). some_found rs c b k (omega arith) h (sym (cond-false (same x c b) _ _ t) ∙ e))
     (cases_Bool (same x c b))
 

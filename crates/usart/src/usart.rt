@@ -29,7 +29,7 @@ impl Kind for Usart {
             lengths,
             samples: sample_clocks(&lengths[..12]),
             sample_count: 3 * (1 + format.first_stop()),
-            break_length: 10 * settings.divider as u32,
+            break_length: 10 * u32::from(settings.divider),
         })
     }
 }
