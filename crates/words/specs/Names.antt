@@ -1,5 +1,5 @@
 -- The names of formats.
-use Rattle.std.specs.Prelude.{◌≡◌, ℕ, Bool, List, [], ◌∷◌, ◌++◌, if◌then◌else◌}
+use Rattle.std.specs.Prelude.{◌≡◌, ◌≢◌, ℕ, Bool, List, [], ◌∷◌, ◌++◌, Option, MatchOption, if◌then◌else◌}
 use Rattle.line.specs.declared.format.DataBits.{DataBits}
 use Rattle.line.specs.declared.format.DataBits.TheVariants.{Seven, Eight}
 use Rattle.line.specs.declared.format.Parity.{Parity}
@@ -25,6 +25,10 @@ stops_letter Two = 0x32
 -- 8N1 is 8 data bits, no parity, one stop bit; 8AN1 has an address bit too
 abbrev pub name_of : Format → List ℕ
 name_of f = size_letter f.size ∷ ((if f.address then 0x41 ∷ [] else []) ++ (parity_letter f.parity ∷ (stops_letter f.stops ∷ [])))
+
+-- the answer is what has this name, or none where nothing has it
+abbrev pub NamedBy : {A B : Type 0} → (A → B) → B → Option A → Type 0
+NamedBy {A} name n r = MatchOption r ((x : A) → name x ≢ n) (λ x. name x ≡ n)
 
 -- these are the format's letters
 pub record Form (f : Format) (size : ℕ) (address : Bool) (parity stops : ℕ) : Type 0 where

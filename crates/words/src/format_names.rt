@@ -1,16 +1,13 @@
 // The names of formats, as 8N1: data bits, an A where there is an address bit, parity, stop bits.
-ghost use Rattle.std.specs.Prelude.{◌≡◌, ◌≢◌, MatchOption};
-ghost use Rattle.line.specs.declared.format.DataBits.{DataBits};
+ghost use Rattle.std.specs.Prelude.{MatchOption};
 ghost use Rattle.line.specs.declared.format.Format.{Format};
-ghost use Rattle.line.specs.declared.format.Parity.{Parity};
-ghost use Rattle.line.specs.declared.format.StopBits.{StopBits};
-ghost use Rattle.words.specs.Names.{name_of, size_letter, parity_letter, stops_letter, Form};
+ghost use Rattle.words.specs.Names.{NamedBy, name_of, size_letter, parity_letter, stops_letter, Form};
 
 use line::{DataBits, Format, Parity, StopBits};
 
-// The format that has this name, or none.
+// The format that has this name, or none. No `FromStr` or `TryFrom`: neither the trait nor `Format` is of this crate.
 pub fn format_named(name: &[u8]) -> Option<Format>
-    ensures { MatchOption result ((f : Format) → name_of f ≢ name.now) (λ f. name_of f ≡ name.now) }
+    ensures { NamedBy name_of name.now result }
 {
     match name {
         [size, parity, stops] => form(*size, false, *parity, *stops),
@@ -32,17 +29,13 @@ fn form(size: u8, address: bool, parity: u8, stops: u8) -> Option<Format>
 }
 
 fn size_of(letter: u8) -> Option<DataBits>
-    ensures { MatchOption result ((s : DataBits) → size_letter s ≢ letter) (λ s. size_letter s ≡ letter) }
+    ensures { NamedBy size_letter letter result }
 {
-    match letter {
-        b'7' => Some(DataBits::Seven),
-        b'8' => Some(DataBits::Eight),
-        _ => None,
-    }
+    DataBits::try_from(letter.checked_sub(b'0')?).ok()
 }
 
 fn parity_of(letter: u8) -> Option<Parity>
-    ensures { MatchOption result ((p : Parity) → parity_letter p ≢ letter) (λ p. parity_letter p ≡ letter) }
+    ensures { NamedBy parity_letter letter result }
 {
     match letter {
         b'N' => Some(Parity::Absent),
@@ -53,11 +46,7 @@ fn parity_of(letter: u8) -> Option<Parity>
 }
 
 fn stops_of(letter: u8) -> Option<StopBits>
-    ensures { MatchOption result ((s : StopBits) → stops_letter s ≢ letter) (λ s. stops_letter s ≡ letter) }
+    ensures { NamedBy stops_letter letter result }
 {
-    match letter {
-        b'1' => Some(StopBits::One),
-        b'2' => Some(StopBits::Two),
-        _ => None,
-    }
+    StopBits::try_from(letter.checked_sub(b'0')?).ok()
 }

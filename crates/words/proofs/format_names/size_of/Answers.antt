@@ -1,0 +1,11 @@
+-- The letter is the digit of the count.
+use Rattle.std.proofs.Common.{◌≡◌, ◌+◌, arith, rules}
+use Rattle.line.specs.Frames.{data_count}
+use Rattle.words.specs.Names.{size_letter}
+use Rattle.words.proofs.Letters.{by_digit, size_digit}
+use Rattle.words.proofs.format_names.size_of.Goals as goal
+
+pub returns : goal.returns
+returns c =
+    let digit : c.args.letter ≡ 0x30 + c.in_ok-checked_sub.field-0 = search rules in
+    by_digit size_letter data_count c.args.letter c.in_ok-checked_sub.field-0 c.try_from.result c.ok.result size_digit digit c.ok.ensures.value c.try_from.ensures
