@@ -1,1 +1,2 @@
+-- The lemmas that the proofs cite.
 pub mod Cases

@@ -1,3 +1,4 @@
+-- The times are those of the settings that were made, and the worked cases hold.
 use Rattle.std.proofs.Common.{Ok, Result, ◌∙◌, ap₂}
 use Rattle.line.specs.declared.refusal.Refusal.{Refusal}
 use Rattle.ends.specs.Times.{Times}
