@@ -11,7 +11,7 @@ pub mod spoiling;
 
 pub use drawing::draw;
 pub use from_entry::FromEntry;
-pub use runs::run_length;
+pub use runs::{Run, Runs, run_length};
 pub use scanner::Scanner;
 pub use scanning::{scan, scan_into};
 pub use spoiling::hold_space;
