@@ -1,3 +1,4 @@
 -- What the contracts cite.
 pub mod Tolerance
 pub mod Divider
+pub mod Ways

@@ -4,7 +4,9 @@
 
 pub mod divider;
 pub mod tolerance;
+pub mod ways;
 
 pub use divider::nearest_divider;
 pub use link::Rates;
 pub use tolerance::{Off, Tolerance};
+pub use ways::{Clocked, Way};

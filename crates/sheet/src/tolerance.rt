@@ -1,5 +1,6 @@
 // How far the clock of an end may be off before Fit no longer passes.
 ghost use Rattle.std.specs.Prelude.{◌≡◌, ◌+◌, ◌-◌, ◌<◌, ◌≤◌, true, false, MatchOption};
+ghost use Rattle.sheet.specs.Tolerance.{own_rate};
 
 use ends::{Receiver, Sender};
 use link::{Rates, Verdict, fit};
@@ -14,6 +15,18 @@ pub enum Off {
     Receiver,
 }
 
+impl Off {
+    // The rate that the clock should have.
+    pub(crate) fn own_rate(self, rates: Rates) -> u32
+        ensures { result ≡ own_rate rates self }
+    {
+        match self {
+            Off::Sender => rates.send,
+            Off::Receiver => rates.receive,
+        }
+    }
+}
+
 // Two ends with the rates that their clocks should have, and the end whose clock is off.
 #[derive(Clone, Copy)]
 pub struct Tolerance<'a, S, R> {
@@ -24,17 +37,7 @@ pub struct Tolerance<'a, S, R> {
 }
 
 impl<S: Sender, R: Receiver> Tolerance<'_, S, R> {
-    ghost use Rattle.sheet.specs.Tolerance.{own_rate, passes_at, UpTo, DownTo};
-
-    // The rate that the clock should have.
-    fn own_rate(&self) -> u32
-        ensures { result ≡ own_rate self.now.rates self.now.off }
-    {
-        match self.off {
-            Off::Sender => self.rates.send,
-            Off::Receiver => self.rates.receive,
-        }
-    }
+    ghost use Rattle.sheet.specs.Tolerance.{passes_at, UpTo, DownTo};
 
     // Whether Fit passes when the clock has this rate, and the other the rate that it should have.
     fn passes(&self, hertz: u32) -> bool
@@ -76,7 +79,7 @@ impl<S: Sender, R: Receiver> Tolerance<'_, S, R> {
     pub fn highest(&self) -> Option<u32>
         ensures { MatchOption result (passes_at (S.Sender.meaning self.now.sender.now) (R.Receiver.meaning self.now.receiver.now) self.now.rates self.now.off (own_rate self.now.rates self.now.off) ≡ false) (λ h. UpTo (passes_at (S.Sender.meaning self.now.sender.now) (R.Receiver.meaning self.now.receiver.now) self.now.rates self.now.off) (own_rate self.now.rates self.now.off) h) }
     {
-        let own = self.own_rate();
+        let own = self.off.own_rate(self.rates);
         if !self.passes(own) {
             return None;
         }
@@ -87,7 +90,7 @@ impl<S: Sender, R: Receiver> Tolerance<'_, S, R> {
     pub fn lowest(&self) -> Option<u32>
         ensures { MatchOption result (passes_at (S.Sender.meaning self.now.sender.now) (R.Receiver.meaning self.now.receiver.now) self.now.rates self.now.off (own_rate self.now.rates self.now.off) ≡ false) (λ h. DownTo (passes_at (S.Sender.meaning self.now.sender.now) (R.Receiver.meaning self.now.receiver.now) self.now.rates self.now.off) (own_rate self.now.rates self.now.off) h) }
     {
-        let own = self.own_rate();
+        let own = self.off.own_rate(self.rates);
         if !self.passes(own) {
             return None;
         }
