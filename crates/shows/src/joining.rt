@@ -19,6 +19,12 @@ const LAPTOP_OFF_HERTZ: u32 = 2_027_520;
 
 const LAPTOP_DIVIDER: u16 = 24;
 
+// The clocks of a frame that the lock sends.
+const FRAME: usize = 68;
+
+// How many frames the last characters may take to arrive.
+const IDLE: usize = 2;
+
 fn laptop_timing() -> Result<Timing, Refusal> {
     let format = Format::from_numbers(8, 0, 0, 1)?;
     Port::timing(format, port::Settings::new(LAPTOP_DIVIDER)?)
@@ -52,13 +58,9 @@ fn handed_over(alloc: Global, way: Way, record: &str) -> Result<Vec<(u16, u8)>, 
         owed: 0,
     };
     let mut arrived = Vec::new(alloc);
-    let mut left = record.as_bytes();
-    for _ in 0..record.len().saturating_add(2).saturating_mul(68) {
-        if let Some((next, others)) = left.split_first()
-            && link.load(u16::from(*next)).is_ok()
-        {
-            left = others;
-        }
+    let mut left = record.as_bytes().iter().peekable();
+    for _ in 0..record.len().saturating_add(IDLE).saturating_mul(FRAME) {
+        let _ = left.next_if(|next| link.load(u16::from(**next)).is_ok());
         let _ = link.send();
         for _ in 0..pace.next_clocks() {
             link.receive();
