@@ -25,7 +25,7 @@ taken_over r t held more e first state is =
     (ap (λ (x : List Entry). x ++ without_oldest r.unread) is ∙ append_assoc held (e ∷ []) (without_oldest r.unread) ∙ ap {B = List Entry} (λ x. held ++ x) (go r.unread first))
   where
     go : (us : List Entry) → Ok e ≡ oldest us → e ∷ without_oldest us ≡ us
-    go [] h = absurd (let z : ◌≡◌ {A = ℕ} 0 1 = cc in omega arith)
+    go [] h = cc
     go (u ∷ us) h = let z : e ≡ u = cc in ap {B = List Entry} (λ x. x ∷ us) z
 
 -- an entry passes those held, where there is room after them

@@ -34,7 +34,7 @@ pub handed_down : (s t : SenderState) (c n : ℕ) (held others : List ℕ) (a : 
     → a ≡ load_answer s (c % n) → t ≡ after_load s (c % n) → false ≡ is_err a → queued_to t others ≡ queued_to s held
 handed_down s t c n held others a first size answer state ok = ⊎_elim
     (λ (x : (length s.waiting ≡ s.capacity) × (load_answer s d ≡ Err Full)).
-    absurd (let z : true ≡ false = sym (ap is_err (answer ∙ at ∙ x.1)) ∙ sym ok in let y : ◌≡◌ {A = ℕ} 0 1 = cc in omega arith))
+    (let z : true ≡ false = sym (ap is_err (answer ∙ at ∙ x.1)) ∙ sym ok in cc))
     (λ (x : (length s.waiting ≢ s.capacity) × (load_answer s d ≡ Ok tt)).
     ap {B = SenderState} (λ u. queued_to u others) (state ∙ ap (λ (m : ℕ). after_load s (c % m)) size ∙ after_answer s d (Ok tt) x.1)
     ∙ ap {B = SenderState} (λ w. record { format = s.format; lengths = s.lengths; capacity = s.capacity + 16; left = s.left; waiting = w })

@@ -35,7 +35,7 @@ impl<R: Receiver> ReceiveQueue<R> {
             let Ok(entry) = self.below.read() else {
                 return;
             };
-            self.held.push(entry);
+            self.held.push_back(entry);
         }
     }
 }
@@ -59,9 +59,9 @@ impl<R: Receiver> Receiver for ReceiveQueue<R> {
     }
 
     fn read(&mut self) -> Result<(u16, u8), Refusal> {
-        let Some(entry) = self.held.pop() else {
-            return self.below.read();
-        };
-        Ok(entry)
+        match self.held.pop_front() {
+            Some(entry) => Ok(entry),
+            None => self.below.read(),
+        }
     }
 }

@@ -5,6 +5,8 @@ use std::marker::Model;
 
 const PLACES: usize = 16;
 
+// Places of its own: the library allocates nothing, and the kit's `circular_buffer` stands on the heap; an `ArrayVec`
+// would move all other items at each removal from the front.
 #[derive(Drop)]
 pub struct Ring<T> {
     pub(crate) places: [T; PLACES],
@@ -43,7 +45,7 @@ impl<T: Copy> Ring<T> {
         self.count == PLACES
     }
 
-    pub(crate) fn oldest(&self) -> Option<T>
+    pub(crate) fn front(&self) -> Option<T>
         ensures { MatchOption result (self.now ≡ []) (λ item. self.now ≡ item ∷ drop 1 self.now) }
     {
         if self.count == 0 {
@@ -53,17 +55,17 @@ impl<T: Copy> Ring<T> {
     }
 
     // Removes the oldest item and answers it.
-    pub(crate) fn pop(&mut self) -> Option<T>
+    pub(crate) fn pop_front(&mut self) -> Option<T>
         ensures answer { MatchOption result (self.old ≡ []) (λ item. self.old ≡ item ∷ self.new) }
         ensures rest { self.new ≡ drop 1 self.old }
     {
-        let item = self.oldest()?;
+        let item = self.front()?;
         self.first = (self.first + 1) % PLACES;
         self.count -= 1;
         Some(item)
     }
 
-    pub(crate) fn push(&mut self, item: T)
+    pub(crate) fn push_back(&mut self, item: T)
         requires { length self.old < 16 }
         ensures { self.new ≡ self.old ++ item ∷ [] }
     {

@@ -30,13 +30,13 @@ impl<S: Sender> SendQueue<S> {
         ensures same { queued_to (S.meaning self.new.below) self.new.held ≡ queued_to (S.meaning self.old.below) self.old.held }
         ensures full { 0 < length self.new.held → length (S.meaning self.new.below).waiting ≡ (S.meaning self.new.below).capacity }
     {
-        while let Some(character) = self.held.oldest() {
+        while let Some(character) = self.held.front() {
             // `load` lets no wider character in, but only the cut shows it
             let characters = self.below.format().characters();
             if self.below.load(character % characters).is_err() {
                 return;
             }
-            self.held.pop();
+            self.held.pop_front();
         }
     }
 }
@@ -62,7 +62,7 @@ impl<S: Sender> Sender for SendQueue<S> {
         if self.held.is_full() {
             return Err(Refusal::Full);
         }
-        self.held.push(character);
+        self.held.push_back(character);
         Ok(())
     }
 

@@ -9,8 +9,8 @@ pub loop-character-preserved : goal.loop-character-preserved
 loop-character-preserved g c =
     let q = c.loop-character.self in
     handed_down (g.S.Sender.meaning q.below) (g.S.Sender.meaning c.load.new.self) c.in-Some.character c.characters-characters.result
-    q.held c.pop.new.self c.load.result
-    (c.in-Some.ensures ∙ ap (λ (l : List ℕ). c.in-Some.character ∷ l) (sym c.pop.ensures.rest))
+    q.held c.pop_front.new.self c.load.result
+    (c.in-Some.ensures ∙ ap (λ (l : List ℕ). c.in-Some.character ∷ l) (sym c.pop_front.ensures.rest))
     (c.characters-characters.ensures.value ∙ ap (λ (f : Format). 2 ^ width f) c.format.ensures)
     c.load.ensures.answer c.load.ensures.state c.if-is_err.ensures.value
     ∙ c.loop-character.invariant

@@ -27,6 +27,6 @@ returns g c =
     let q = c.hand_down.new.self in
     let done = taken (g.S.Sender.meaning q.below) q.held m c.hand_down.ensures.same c.args.character
     (narrow c.args.character c.characters.result c.format.result m.format c.characters.ensures.value c.format.ensures c.if-character-characters.false)
-    c.push.new.self c.push.ensures
+    c.push_back.new.self c.push_back.ensures
     c.if-is_full.ensures (g.met.S.Sender.sound q.below).few in
     record { answer = done.0; state = done.1 }

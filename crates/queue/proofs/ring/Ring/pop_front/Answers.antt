@@ -1,7 +1,7 @@
 -- From the next place on stand the other items.
 use Rattle.std.proofs.Common.{◌<◌, ◌∷◌, length, drop, sym, ap, ◌∙◌, arith}
 use Rattle.queue.proofs.Rings.{count_is, after_remove}
-use Rattle.queue.proofs.ring.Ring.pop.Goals as goal
+use Rattle.queue.proofs.ring.Ring.pop_front.Goals as goal
 
 pub returns : goal.returns
 returns g c =

@@ -1,7 +1,7 @@
 -- The first item stands at the first place.
 use Rattle.std.proofs.Common.{◌≡◌, ◌∷◌, drop, slice_index_or, subst, arith}
 use Rattle.queue.proofs.Rings.{oldest_item}
-use Rattle.queue.proofs.ring.Ring.oldest.Goals as goal
+use Rattle.queue.proofs.ring.Ring.front.Goals as goal
 
 pub returns : goal.returns
 returns g c =

@@ -1,7 +1,7 @@
 -- The place written is that after the last item, and none of theirs.
 use Rattle.std.proofs.Common.{[], ◌∷◌, ◌++◌, length, ap, ◌∙◌, arith}
 use Rattle.queue.proofs.Rings.{count_is, after_push}
-use Rattle.queue.proofs.ring.Ring.push.Goals as goal
+use Rattle.queue.proofs.ring.Ring.push_back.Goals as goal
 
 pub returns : goal.returns
 returns g c =
