@@ -1,2 +1,3 @@
+-- The lemmas that the proofs cite.
 pub mod Convex
 pub mod Dividing

@@ -9,6 +9,7 @@ use Rattle.link.specs.Judging.{fit_answer}
 use Rattle.link.specs.declared.rates.Rates.{Rates}
 use Rattle.sheet.specs.declared.tolerance.Off.{Off}
 use Rattle.sheet.specs.declared.tolerance.Off.TheVariants.{Sender, Receiver}
+use Rattle.sheet.specs.declared.tolerance.Tolerance.{Tolerance}
 
 abbrev pub own_rate : Rates → Off → ℕ
 own_rate q Sender = q.send
@@ -24,6 +25,10 @@ is_pass (Err e) = false
 abbrev pub passes_at : SenderState → ReceiverState → Rates → Off → ℕ → Bool
 passes_at s r q Sender n = is_pass (fit_answer s r n q.receive)
 passes_at s r q Receiver n = is_pass (fit_answer s r q.send n)
+
+-- so of two ends and their rates, by what the ends mean
+abbrev pub passes_of : {S R : Type 0} → (S → SenderState) → (R → ReceiverState) → Tolerance S R → ℕ → Bool
+passes_of sends hears t = passes_at (sends t.sender.now) (hears t.receiver.now) t.rates t.off
 
 -- a test holds of every whole number from one up to another, and not of the next
 pub record UpTo (test : ℕ → Bool) (from to : ℕ) : Type 0 where

@@ -37,11 +37,11 @@ pub struct Tolerance<'a, S, R> {
 }
 
 impl<S: Sender, R: Receiver> Tolerance<'_, S, R> {
-    ghost use Rattle.sheet.specs.Tolerance.{passes_at, UpTo, DownTo};
+    ghost use Rattle.sheet.specs.Tolerance.{passes_of, UpTo, DownTo};
 
     // Whether Fit passes when the clock has this rate, and the other the rate that it should have.
     fn passes(&self, hertz: u32) -> bool
-        ensures { result ≡ passes_at (S.Sender.meaning self.now.sender.now) (R.Receiver.meaning self.now.receiver.now) self.now.rates self.now.off hertz }
+        ensures { result ≡ passes_of S.Sender.meaning R.Receiver.meaning self.now hertz }
     {
         let varied = match self.off {
             Off::Sender => Rates {
@@ -58,11 +58,11 @@ impl<S: Sender, R: Receiver> Tolerance<'_, S, R> {
 
     // The last rate at which Fit passes, from one at which it does towards one at which it doesn't.
     fn edge(&self, mut good: u32, mut bad: u32) -> u32
-        requires good { passes_at (S.Sender.meaning self.now.sender.now) (R.Receiver.meaning self.now.receiver.now) self.now.rates self.now.off good ≡ true }
-        requires bad { passes_at (S.Sender.meaning self.now.sender.now) (R.Receiver.meaning self.now.receiver.now) self.now.rates self.now.off bad ≡ false }
-        ensures passes { passes_at (S.Sender.meaning self.now.sender.now) (R.Receiver.meaning self.now.receiver.now) self.now.rates self.now.off result ≡ true }
-        ensures up { good < bad → (good ≤ result) × (passes_at (S.Sender.meaning self.now.sender.now) (R.Receiver.meaning self.now.receiver.now) self.now.rates self.now.off (result + 1) ≡ false) }
-        ensures down { bad < good → (result ≤ good) × (passes_at (S.Sender.meaning self.now.sender.now) (R.Receiver.meaning self.now.receiver.now) self.now.rates self.now.off (result - 1) ≡ false) }
+        requires good { passes_of S.Sender.meaning R.Receiver.meaning self.now good ≡ true }
+        requires bad { passes_of S.Sender.meaning R.Receiver.meaning self.now bad ≡ false }
+        ensures passes { passes_of S.Sender.meaning R.Receiver.meaning self.now result ≡ true }
+        ensures up { good < bad → (good ≤ result) × (passes_of S.Sender.meaning R.Receiver.meaning self.now (result + 1) ≡ false) }
+        ensures down { bad < good → (result ≤ good) × (passes_of S.Sender.meaning R.Receiver.meaning self.now (result - 1) ≡ false) }
     {
         while good.abs_diff(bad) > 1 {
             let middle = good.midpoint(bad);
@@ -75,25 +75,31 @@ impl<S: Sender, R: Receiver> Tolerance<'_, S, R> {
         good
     }
 
-    // The highest rate of the clock up to which Fit passes; none where it does not pass at all.
-    pub fn highest(&self) -> Option<u32>
-        ensures { MatchOption result (passes_at (S.Sender.meaning self.now.sender.now) (R.Receiver.meaning self.now.receiver.now) self.now.rates self.now.off (own_rate self.now.rates self.now.off) ≡ false) (λ h. UpTo (passes_at (S.Sender.meaning self.now.sender.now) (R.Receiver.meaning self.now.receiver.now) self.now.rates self.now.off) (own_rate self.now.rates self.now.off) h) }
+    // The last rate at which Fit passes, from the one that the clock should have towards one at which it doesn't.
+    // No `then`: tried, and the proof did not find what its closure returns.
+    fn edge_towards(&self, bad: u32) -> Option<u32>
+        requires { passes_of S.Sender.meaning R.Receiver.meaning self.now bad ≡ false }
+        ensures up { 16777217 ≤ bad → MatchOption result (passes_of S.Sender.meaning R.Receiver.meaning self.now (own_rate self.now.rates self.now.off) ≡ false) (λ h. UpTo (passes_of S.Sender.meaning R.Receiver.meaning self.now) (own_rate self.now.rates self.now.off) h) }
+        ensures down { bad ≡ 0 → MatchOption result (passes_of S.Sender.meaning R.Receiver.meaning self.now (own_rate self.now.rates self.now.off) ≡ false) (λ h. DownTo (passes_of S.Sender.meaning R.Receiver.meaning self.now) (own_rate self.now.rates self.now.off) h) }
     {
         let own = self.off.own_rate(self.rates);
         if !self.passes(own) {
             return None;
         }
-        Some(self.edge(own, ABOVE_ALL))
+        Some(self.edge(own, bad))
+    }
+
+    // The highest rate of the clock up to which Fit passes; none where it does not pass at all.
+    pub fn highest(&self) -> Option<u32>
+        ensures { MatchOption result (passes_of S.Sender.meaning R.Receiver.meaning self.now (own_rate self.now.rates self.now.off) ≡ false) (λ h. UpTo (passes_of S.Sender.meaning R.Receiver.meaning self.now) (own_rate self.now.rates self.now.off) h) }
+    {
+        self.edge_towards(ABOVE_ALL)
     }
 
     // The lowest rate of the clock down to which Fit passes; none where it does not pass at all.
     pub fn lowest(&self) -> Option<u32>
-        ensures { MatchOption result (passes_at (S.Sender.meaning self.now.sender.now) (R.Receiver.meaning self.now.receiver.now) self.now.rates self.now.off (own_rate self.now.rates self.now.off) ≡ false) (λ h. DownTo (passes_at (S.Sender.meaning self.now.sender.now) (R.Receiver.meaning self.now.receiver.now) self.now.rates self.now.off) (own_rate self.now.rates self.now.off) h) }
+        ensures { MatchOption result (passes_of S.Sender.meaning R.Receiver.meaning self.now (own_rate self.now.rates self.now.off) ≡ false) (λ h. DownTo (passes_of S.Sender.meaning R.Receiver.meaning self.now) (own_rate self.now.rates self.now.off) h) }
     {
-        let own = self.off.own_rate(self.rates);
-        if !self.passes(own) {
-            return None;
-        }
-        Some(self.edge(own, 0))
+        self.edge_towards(0)
     }
 }
