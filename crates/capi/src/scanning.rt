@@ -7,7 +7,7 @@ ghost use Rattle.capi.specs.Scanning.{told_entry, scan_result, listing};
 use super::numbers::{EndNumbers, EntryNumbers};
 use super::telling::tell;
 use line::Refusal;
-use picture::{FromEntry, scan_into};
+use picture::{FromEntry, scan};
 
 impl FromEntry for EntryNumbers {
     ghost of_entry = { told_entry };
@@ -38,5 +38,5 @@ fn scan_at(end: &EndNumbers, picture: &[u8], entries: &mut [EntryNumbers]) -> Re
     ensures entries { MatchResult result (λ n. entries.new ≡ listing end.now picture.now ++ drop n entries.old) (λ _. entries.new ≡ entries.old) }
     ensures recovers { IfOk (end_times end.now) (λ t. RecoversAt t picture.now (listed_at t picture.now)) }
 {
-    scan_into(&end.timing()?, picture, entries)
+    scan(&end.timing()?, picture, entries)
 }

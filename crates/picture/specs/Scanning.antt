@@ -1,6 +1,7 @@
 -- What a scan of a picture lists, and when it declines.
 use Rattle.std.specs.Prelude.{◌≡◌, ℕ, Bool, if◌then◌else◌, List, [], ◌∷◌, ◌++◌, map, length, Ok, Err, Result, nat_lt}
 use Rattle.std.specs.List.{list_any}
+use Rattle.std.proofs.lemmas.List.{map-id}
 use Rattle.line.specs.declared.level.Level.{Level}
 use Rattle.line.specs.declared.refusal.Refusal.{Refusal}
 use Rattle.line.specs.declared.refusal.Refusal.TheVariants.{NotALevel, TooShort}
@@ -30,6 +31,10 @@ listed_at t bs = taken_down (resting t) (levels bs)
 
 abbrev pub listed : Timing → List ℕ → List Entry
 listed t bs = listed_at (times_of t) bs
+
+-- pairs of plain numbers are listed as they are: what a scan promises of a list of pairs speaks of the entries themselves
+pub pairs_stay : (es : List Entry) → map (λ (e : Entry). e) es ≡ es
+pairs_stay es = map-id es
 
 -- how many entries arrive at a receiver with some bytes, or why none is listed: room is the length of the list
 abbrev pub piece_answer : ReceiverState → List ℕ → ℕ → Result ℕ Refusal

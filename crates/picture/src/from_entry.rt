@@ -2,6 +2,7 @@
 ghost use Rattle.std.specs.Prelude.{◌≡◌};
 ghost use Rattle.ends.specs.Receiver.{Entry};
 
+// No `From<(u16, u8)>`: its ghost member is a relation, and a scan's contract says by a function what the list becomes, as `map of_entry ..`.
 pub trait FromEntry {
     ghost of_entry: { Entry → Self };
 

@@ -13,5 +13,5 @@ pub use drawing::draw;
 pub use from_entry::FromEntry;
 pub use runs::{Run, Runs, run_length};
 pub use scanner::Scanner;
-pub use scanning::{scan, scan_into};
+pub use scanning::scan;
 pub use spoiling::hold_space;

@@ -4,6 +4,7 @@ ghost use Rattle.ends.specs.BareReceiver.{meant};
 
 use ends::BareReceiver;
 
+// Contracts speak of its receiver: it is `Copy`, so a model would have to give the fields back, and hide nothing.
 #[derive(Clone, Copy)]
 pub struct Scanner {
     pub(crate) receiver: BareReceiver,

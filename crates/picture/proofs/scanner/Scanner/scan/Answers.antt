@@ -1,6 +1,6 @@
 -- Piece by piece a picture gives what it gives whole, whatever is answered.
 use Rattle.picture.proofs.Listing.{goes_on}
-use Rattle.picture.proofs.scanner.Scanner.scan_into.Goals as goal
+use Rattle.picture.proofs.scanner.Scanner.scan.Goals as goal
 
 pub returns-then-has_other-clause-pieces : goal.returns-then-has_other-clause-pieces
 returns-then-has_other-clause-pieces g c = goes_on c.args.piece.now _
