@@ -27,7 +27,7 @@ pub extern "C" fn hotskrebi_fit(
         send: send_rate,
         receive: receive_rate,
     };
-    let answer = fit_at(sender, receiver, rates).map(|found| VerdictNumbers::from(found));
+    let answer = fit_at(sender, receiver, rates).map(VerdictNumbers::from);
     tell(answer, verdict)
 }
 

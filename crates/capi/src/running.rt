@@ -110,6 +110,7 @@ fn do_one<S: Sender, R: Receiver>(link: &mut Link<S, R>, act: ActNumbers) -> Ans
     ensures answer { result ≡ told_answer (answer (link_of S.Sender.meaning R.Receiver.meaning link.old) (act_of act)) }
     ensures state { link_of S.Sender.meaning R.Receiver.meaning link.new ≡ after_act (link_of S.Sender.meaning R.Receiver.meaning link.old) (act_of act) }
 {
+    // by `match`: where a closure of `and_then` does the act, the proof doesn't learn what became of the link
     match Act::try_from(act) {
         Ok(act) => AnswerNumbers::from(link.act(act)),
         Err(refusal) => AnswerNumbers::from(Err(refusal)),

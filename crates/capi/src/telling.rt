@@ -19,11 +19,8 @@ pub(crate) fn tell<T: Copy>(answer: Result<T, Refusal>, place: &mut T) -> u8
     ensures answer { result ≡ answer_number answer }
     ensures place { MatchResult answer (λ x. place.new ≡ x) (λ _. place.new ≡ place.old) }
 {
-    match answer {
-        Ok(found) => {
-            *place = found;
-            0
-        }
-        Err(refusal) => u8::from(refusal),
+    if let Ok(found) = &answer {
+        *place = *found;
     }
+    answer_number(answer)
 }
