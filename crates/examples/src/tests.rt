@@ -9,6 +9,7 @@ use std::process::Abort;
 use std::test::Fail;
 use usart::{Settings, Usart, built_in};
 
+// In the words of the line, since the examples stand on no crate of the lock.
 const EIGHT_N_ONE: Format = Format {
     size: DataBits::Eight,
     address: false,
