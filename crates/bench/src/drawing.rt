@@ -3,8 +3,8 @@ use super::lines::chosen;
 use super::options::{Takes, Words};
 use anyhow::{anyhow, bail, ensure};
 use ends::Timing;
-use picture::draw;
-use shows::{Run, Runs};
+use picture::{Run, Runs, draw};
+use shows::level_name;
 use std::io;
 use std::io::Write;
 use std::str::FromStr;
@@ -77,7 +77,7 @@ impl Style {
 
     fn write_run(self, rt: &impl Print, from: u64, run: Run) -> io::Result<()> {
         match self {
-            Style::Runs => println!(rt; "  {from:>10}  {:<5}  {:>8}", run.level(), run.clocks),
+            Style::Runs => println!(rt; "  {from:>10}  {:<5}  {:>8}", level_name(run.level()), run.clocks),
             Style::Vcd => println!(rt; "#{from}\n{}!", run.byte),
             Style::Bytes => Ok(()),
         }

@@ -4,8 +4,7 @@ use super::options::{Takes, Words, number};
 use anyhow::bail;
 use line::Refusal;
 use link::Verdict;
-use sheet::Off;
-use shows::{Clocked, Way};
+use sheet::{Clocked, Off, Way};
 use std::io;
 
 const TAKES: Takes = Takes {

@@ -3,11 +3,11 @@ use std::fmt;
 
 // Printed, it is those names, with a text between each two.
 #[derive(Clone, Copy)]
-pub struct SetBits<'a> {
-    pub byte: u8,
+pub(crate) struct SetBits<'a> {
+    pub(crate) byte: u8,
     // each bit with its name
-    pub names: &'a [(u8, &'a str)],
-    pub between: &'a str,
+    pub(crate) names: &'a [(u8, &'a str)],
+    pub(crate) between: &'a str,
 }
 
 impl<'a> fmt::Display for SetBits<'a> {

@@ -11,12 +11,12 @@ pub fn readable(character: u16) -> char {
 }
 
 // How many entries carry a flag.
-pub fn flagged(entries: &[(u16, u8)]) -> usize {
+pub(crate) fn flagged(entries: &[(u16, u8)]) -> usize {
     entries.iter().filter(|(_, bits)| *bits != 0).count()
 }
 
 // The characters of the entries, as text.
-pub fn print_text(rt: &impl Print, entries: &[(u16, u8)]) -> io::Result<()> {
+pub(crate) fn print_text(rt: &impl Print, entries: &[(u16, u8)]) -> io::Result<()> {
     print!(rt; "  ")?;
     for (character, _) in entries {
         print!(rt; "{}", readable(*character))?;
@@ -25,7 +25,7 @@ pub fn print_text(rt: &impl Print, entries: &[(u16, u8)]) -> io::Result<()> {
 }
 
 // The entries that carry a flag, one to a line.
-pub fn print_flagged(rt: &impl Print, entries: &[(u16, u8)]) -> io::Result<()> {
+pub(crate) fn print_flagged(rt: &impl Print, entries: &[(u16, u8)]) -> io::Result<()> {
     println!(rt; "  entry  character  flags")?;
     for (number, (character, bits)) in (1u32..).zip(entries) {
         if *bits != 0 {

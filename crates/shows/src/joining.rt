@@ -2,7 +2,6 @@
 use super::entries::{flagged, print_text};
 use super::records::built_in;
 use super::verdicts::InWords;
-use super::ways::{Clocked, Way};
 use anyhow::anyhow;
 use ends::{Kind, Timing};
 use line::{Format, Refusal};
@@ -10,6 +9,7 @@ use link::Link;
 use lock::{CLOCK_HERTZ, DIVIDER, MODULATOR};
 use port::Port;
 use queue::{ReceiveQueue, SendQueue};
+use sheet::{Clocked, Way};
 use std::alloc::{AllocError, Global};
 
 pub const LAPTOP_HERTZ: u32 = 1_843_200;

@@ -2,31 +2,30 @@
 
 #![tactic(auto)]
 
-pub mod bits;
+mod bits;
 pub mod entries;
 pub mod firmware;
 pub mod flags;
 pub mod joining;
+pub mod levels;
 pub mod named_ends;
 pub mod records;
 pub mod registers;
-pub mod runs;
 pub mod settings_sheet;
 pub mod tables;
-pub mod tenths;
+mod tenths;
 pub mod verdicts;
-pub mod ways;
 
 pub use entries::readable;
 pub use firmware::drive;
 pub use flags::Flags;
 pub use joining::{LAPTOP_HERTZ, join};
+pub use levels::level_name;
 pub use named_ends::{port_timing, usart_timing};
 pub use records::demo;
-pub use runs::{Run, Runs};
 pub use settings_sheet::print_sheet;
 pub use tables::print_table;
-pub use ways::{Clocked, Way};
+pub use verdicts::Told;
 
 // The record that the bench takes where it is given none.
 pub const SAMPLE: &str = "2026-11-17 08:59 opened, key 4";

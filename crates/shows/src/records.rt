@@ -2,12 +2,12 @@
 ghost use Rattle.std.specs.Prelude.{◌≤◌, vec_len};
 
 use super::entries::{print_flagged, print_text, readable};
-use super::runs::Runs;
+use super::levels::level_name;
 use super::tenths::Tenths;
 use anyhow::{anyhow, ensure};
 use ends::Timing;
 use lock::{CLOCK_HERTZ, DIVIDER, MODULATOR, lock_timing};
-use picture::{draw, hold_space, scan};
+use picture::{Runs, draw, hold_space, scan};
 use std::alloc::Global;
 use std::io;
 
@@ -79,7 +79,12 @@ impl<'a> Drawn<'a> {
         println!(rt; "The first character, '{shown}' ({first:02X}h), level by level:")?;
         println!(rt; "  from clock  level  clocks")?;
         for run in Runs::new(&self.picture.as_slice()[..self.clocks()]) {
-            println!(rt; "  {:>10}  {:<5}  {:>6}", run.from, run.level(), run.clocks)?;
+            println!(rt;
+                "  {:>10}  {:<5}  {:>6}",
+                run.from,
+                level_name(run.level()),
+                run.clocks
+            )?;
         }
         println!(rt; "")
     }
@@ -109,7 +114,7 @@ impl<'a> Drawn<'a> {
 }
 
 // The times of the lock's own port.
-pub fn built_in() -> anyhow::Result<Timing> {
+pub(crate) fn built_in() -> anyhow::Result<Timing> {
     lock_timing().map_err(|_| anyhow!("the lock's settings are out of range"))
 }
 

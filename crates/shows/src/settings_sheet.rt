@@ -2,9 +2,8 @@
 use super::named_ends::{port_timing, usart_timing};
 use super::tenths::Tenths;
 use super::verdicts::Told;
-use super::ways::{Clocked, Way};
 use line::Format;
-use sheet::{Off, nearest_divider};
+use sheet::{Clocked, Off, Way, nearest_divider};
 use std::io;
 use usart::{ROWS, Row};
 

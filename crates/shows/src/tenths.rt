@@ -2,7 +2,7 @@
 use std::fmt;
 
 #[derive(Clone, Copy)]
-pub struct Tenths(pub u64);
+pub(crate) struct Tenths(pub(crate) u64);
 
 impl fmt::Display for Tenths {
     fn fmt<W: fmt::Write>(&self, f: &mut fmt::Formatter<W>) -> fmt::Result {

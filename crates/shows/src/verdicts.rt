@@ -19,7 +19,7 @@ impl fmt::Display for Told {
 
 // A few words.
 #[derive(Clone, Copy)]
-pub struct InWords(pub Result<Verdict, Refusal>);
+pub(crate) struct InWords(pub(crate) Result<Verdict, Refusal>);
 
 impl fmt::Display for InWords {
     fn fmt<W: fmt::Write>(&self, f: &mut fmt::Formatter<W>) -> fmt::Result {

@@ -1,0 +1,15 @@
+// The levels of a line, for a person to read.
+ghost use Rattle.std.specs.Prelude.{◌≡◌, codes};
+ghost use Rattle.line.specs.declared.level.Level.TheVariants.{Space, Mark};
+
+use line::Level;
+
+pub fn level_name(level: Level) -> &'static str
+    ensures space { level ≡ Space → result.now ≡ codes "space" }
+    ensures mark { level ≡ Mark → result.now ≡ codes "mark" }
+{
+    match level {
+        Level::Space => "space",
+        Level::Mark => "mark",
+    }
+}
