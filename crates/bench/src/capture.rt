@@ -22,7 +22,7 @@ const PIECE: usize = 65_536;
 // So many bytes pass between two lines on the progress.
 const STEP: u64 = 10_000_000;
 
-pub const HELP: &str = "usage: bench scan [FILE] [--as text|hex|decimal] [--format 8N1]
+pub(crate) const HELP: &str = "usage: bench scan [FILE] [--as text|hex|decimal] [--format 8N1]
                   [--divider U] [--modulator M]
 
 Scans a capture of a line, a byte 0 or 1 for each clock, as a port receives it,
@@ -91,6 +91,7 @@ fn next_piece<'a, I: Read>(
 }
 
 // Reads a capture to its end, and hands on each piece of it, with how many bytes came before; answers how many bytes it has.
+// The buffer comes from the caller: made here, the check unfolds its 65,536 zeros and runs out of memory.
 fn each_piece<I: Read, F: FnMut(&[u8], u64) -> anyhow::Result<()>>(
     input: &mut I,
     buffer: &mut [u8],
@@ -99,6 +100,7 @@ fn each_piece<I: Read, F: FnMut(&[u8], u64) -> anyhow::Result<()>>(
     requires { F.IsAlwaysCallable take }
 {
     let mut before = 0u64;
+    // how long the input is nobody knows, and each loop must end
     for _ in 0..u64::MAX {
         let piece = next_piece(input, buffer, before)?;
         if piece.is_empty() {
@@ -160,7 +162,7 @@ fn scan_file(
     Ok(())
 }
 
-pub fn command(
+pub(crate) fn command(
     rt: &(impl Files + Input + Print + Eprint + AllocGlobal),
     words: &[String],
 ) -> anyhow::Result<()> {

@@ -7,13 +7,13 @@ use std::rt::Files;
 use std::str::FromStr;
 
 // What a command without options takes.
-pub const PLAIN: Takes = Takes {
+pub(crate) const PLAIN: Takes = Takes {
     command: "",
     options: &[],
     others: 0,
 };
 
-pub const HELP: &str = "usage: bench [WORD ..]
+pub(crate) const HELP: &str = "usage: bench [WORD ..]
 
   sheet   the settings sheet: which settings may be built into a lock, and how
           far the clock of a laptop may be off
@@ -51,7 +51,7 @@ Sets a chip up register by register, as firmware does, releases it, and has it h
 a character of its own; each access to a register is shown.";
 
 #[derive(Clone, Copy)]
-pub enum Command {
+pub(crate) enum Command {
     Sheet,
     Fit,
     Draw,
@@ -81,7 +81,7 @@ impl FromStr for Command {
 }
 
 impl Command {
-    pub fn help(self) -> &'static str {
+    pub(crate) fn help(self) -> &'static str {
         match self {
             Command::Sheet => settings_sheet::HELP,
             Command::Fit => fitting::HELP,
@@ -95,7 +95,7 @@ impl Command {
     }
 
     // Does what the command is for, with the words behind it.
-    pub fn run(
+    pub(crate) fn run(
         self,
         rt: &(impl Files + Input + Print + Eprint + AllocGlobal),
         words: &[String],

@@ -18,7 +18,7 @@ const TAKES: Takes = Takes {
 // The longest frame: thirteen bits of 65,536 clocks.
 const MOST_CLOCKS: usize = 13 * 65_536;
 
-pub const HELP: &str = "usage: bench draw TEXT [--as runs|bytes|vcd] [--format 8N1]
+pub(crate) const HELP: &str = "usage: bench draw TEXT [--as runs|bytes|vcd] [--format 8N1]
                   [--divider U] [--modulator M]
 
 Draws a text as a port puts it on the line, one character after the other, and
@@ -77,13 +77,18 @@ impl Style {
 
     fn write_run(self, rt: &impl Print, from: u64, run: Run) -> io::Result<()> {
         match self {
-            Style::Runs => println!(rt; "  {from:>10}  {:<5}  {:>8}", level_name(run.level()), run.clocks),
+            Style::Runs => println!(rt;
+                "  {from:>10}  {:<5}  {:>8}",
+                level_name(run.level()),
+                run.clocks
+            ),
             Style::Vcd => println!(rt; "#{from}\n{}!", run.byte),
             Style::Bytes => Ok(()),
         }
     }
 }
 
+// Apart from `draw_text`, since beside the making of its large buffer the check runs out of memory.
 fn draw_character<'a>(
     timing: &Timing,
     character: u8,
@@ -116,7 +121,7 @@ fn draw_text(
     Ok(())
 }
 
-pub fn command(rt: &(impl Print + AllocGlobal), words: &[String]) -> anyhow::Result<()> {
+pub(crate) fn command(rt: &(impl Print + AllocGlobal), words: &[String]) -> anyhow::Result<()> {
     let words = Words::parse(rt.alloc(), TAKES, words)?;
     let style: Style = words.parsed("--as")?;
     let timing = chosen(&words)?;

@@ -13,7 +13,7 @@ const TAKES: Takes = Takes {
     others: 4,
 };
 
-pub const HELP: &str = "usage: bench fit SENDER HERTZ RECEIVER HERTZ [--format 8N1]
+pub(crate) const HELP: &str = "usage: bench fit SENDER HERTZ RECEIVER HERTZ [--format 8N1]
 
 Asks whether a sender and a receiver fit when their clocks have these rates, and
 if they do, between which rates each clock may run. An end is written
@@ -30,7 +30,7 @@ fn print_range(rt: &impl Print, whose: &str, way: Way, off: Off) -> io::Result<(
     )
 }
 
-pub fn command(rt: &(impl Print + AllocGlobal), words: &[String]) -> anyhow::Result<()> {
+pub(crate) fn command(rt: &(impl Print + AllocGlobal), words: &[String]) -> anyhow::Result<()> {
     let words = Words::parse(rt.alloc(), TAKES, words)?;
     let format = words.format()?;
     let from = Clocked {

@@ -8,7 +8,7 @@ use shows::{port_timing, usart_timing};
 use std::alloc::Global;
 
 // An end by name: usart:DIVIDER:MODULATOR or port:DIVIDER.
-pub fn end_named(alloc: Global, format: Format, name: &str) -> anyhow::Result<Timing> {
+pub(crate) fn end_named(alloc: Global, format: Format, name: &str) -> anyhow::Result<Timing> {
     let parts: Vec<&str> = name.split(':').collect(alloc)?;
     match parts.as_slice() {
         ["usart", divider, modulator] => usart_timing(
@@ -22,7 +22,7 @@ pub fn end_named(alloc: Global, format: Format, name: &str) -> anyhow::Result<Ti
 }
 
 // The times that --format, --divider and --modulator set, or those of the lock's port.
-pub fn chosen(words: &Words) -> anyhow::Result<Timing> {
+pub(crate) fn chosen(words: &Words) -> anyhow::Result<Timing> {
     let format = words.format()?;
     let divider = words.number("--divider", u32::from(DIVIDER))?;
     let modulator = words.number("--modulator", u32::from(MODULATOR))?;

@@ -7,14 +7,14 @@ use words::format_named;
 
 // What a command takes: the options that it knows, and so many other words.
 #[derive(Clone, Copy)]
-pub struct Takes {
-    pub command: &'static str,
-    pub options: &'static [&'static str],
-    pub others: usize,
+pub(crate) struct Takes {
+    pub(crate) command: &'static str,
+    pub(crate) options: &'static [&'static str],
+    pub(crate) others: usize,
 }
 
 #[derive(Drop)]
-pub struct Words<'a> {
+pub(crate) struct Words<'a> {
     command: &'static str,
     options: Vec<(&'a str, &'a str)>,
     others: Vec<&'a str>,
@@ -22,7 +22,11 @@ pub struct Words<'a> {
 
 impl<'a> Words<'a> {
     // Refuses an option that the command does not know, one without a value, and a word too many.
-    pub fn parse(alloc: Global, takes: Takes, words: &'a [String]) -> anyhow::Result<Words<'a>> {
+    pub(crate) fn parse(
+        alloc: Global,
+        takes: Takes,
+        words: &'a [String],
+    ) -> anyhow::Result<Words<'a>> {
         let mut parsed = Words {
             command: takes.command,
             options: Vec::new(alloc),
@@ -46,8 +50,8 @@ impl<'a> Words<'a> {
         Ok(parsed)
     }
 
-    // The value of an option, if it was given; of several the last.
-    pub fn option(&self, name: &str) -> Option<&'a str> {
+    // The value of an option, if it was given. A list and no map: there are five at most, and of several given alike the last counts.
+    pub(crate) fn option(&self, name: &str) -> Option<&'a str> {
         self.options
             .iter()
             .rev()
@@ -55,8 +59,8 @@ impl<'a> Words<'a> {
             .map(|(_, value)| *value)
     }
 
-    // The same, read as a T, or else the usual one.
-    pub fn parsed<T: FromStr<Err = anyhow::Error> + Default>(
+    // The same, read as a T, or else the usual one. By a match: the borrow checker does not cover `map(T::from_str)` here.
+    pub(crate) fn parsed<T: FromStr<Err = anyhow::Error> + Default>(
         &self,
         name: &str,
     ) -> anyhow::Result<T> {
@@ -67,12 +71,12 @@ impl<'a> Words<'a> {
     }
 
     // The word with this number, from 0, among those that are neither options nor their values.
-    pub fn other(&self, at: usize) -> Option<&'a str> {
+    pub(crate) fn other(&self, at: usize) -> Option<&'a str> {
         self.others.get(at).copied()
     }
 
     // The same, or a complaint that it is missing.
-    pub fn needed(&self, at: usize, what: &str) -> anyhow::Result<&'a str> {
+    pub(crate) fn needed(&self, at: usize, what: &str) -> anyhow::Result<&'a str> {
         let command = self.command;
         self.other(at).context(format_args!(
             "the {what} is missing; 'bench {command} --help' says more"
@@ -80,17 +84,17 @@ impl<'a> Words<'a> {
     }
 
     // The value of a numeric option, or another where it was not given.
-    pub fn number(&self, name: &str, otherwise: u32) -> anyhow::Result<u32> {
+    pub(crate) fn number(&self, name: &str, otherwise: u32) -> anyhow::Result<u32> {
         self.option(name)
             .map_or(Ok(otherwise), |text| number(text, name))
     }
 
     // The name of the format that --format gives, or 8N1.
-    pub fn format_name(&self) -> &'a str {
+    pub(crate) fn format_name(&self) -> &'a str {
         self.option("--format").unwrap_or("8N1")
     }
 
-    pub fn format(&self) -> anyhow::Result<Format> {
+    pub(crate) fn format(&self) -> anyhow::Result<Format> {
         let name = self.format_name();
         format_named(name.as_bytes()).context(format_args!(
             "--format: '{name}' is no format; 8N1, 7E2 and 8AO1 are some"
@@ -99,7 +103,7 @@ impl<'a> Words<'a> {
 }
 
 // A number: decimal, or hexadecimal with an h behind it.
-pub fn number(text: &str, what: &str) -> anyhow::Result<u32> {
+pub(crate) fn number(text: &str, what: &str) -> anyhow::Result<u32> {
     text.strip_suffix("h")
         .map_or_else(|| text.parse(), |digits| u32::from_str_radix(digits, 16))
         .context(format_args!("{what}: '{text}' is no number"))

@@ -9,13 +9,13 @@ const TAKES: Takes = Takes {
     others: 0,
 };
 
-pub const HELP: &str = "usage: bench sheet [--laptop HERTZ] [--format 8N1]
+pub(crate) const HELP: &str = "usage: bench sheet [--laptop HERTZ] [--format 8N1]
 
 Prints the settings sheet: for each setting that is built into locks, whether a
 laptop's port may be trusted with it. --laptop is the rate of the clock of the
 laptop's port, 1843200 Hz if it is not given.";
 
-pub fn command(rt: &(impl Print + AllocGlobal), words: &[String]) -> anyhow::Result<()> {
+pub(crate) fn command(rt: &(impl Print + AllocGlobal), words: &[String]) -> anyhow::Result<()> {
     let words = Words::parse(rt.alloc(), TAKES, words)?;
     let hertz = words.number("--laptop", LAPTOP_HERTZ)?;
     ensure!(

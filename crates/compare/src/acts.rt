@@ -56,7 +56,11 @@ fn push_receive(acts: &mut Vec<Act>, dice: &mut Dice, habits: Habits) -> Result<
     Ok(())
 }
 
-pub fn some_acts(heap: Global, dice: &mut Dice, pair: &Pair) -> Result<Vec<Act>, AllocError> {
+pub(crate) fn some_acts(
+    heap: Global,
+    dice: &mut Dice,
+    pair: &Pair,
+) -> Result<Vec<Act>, AllocError> {
     let mut acts = Vec::new(heap);
     let habits = Habits::new(dice);
     // a send clock brings so many parts of a receive clock, which has so many

@@ -140,7 +140,7 @@ impl fmt::Display for Driven {
     }
 }
 
-pub fn compare(rt: &(impl Print + AllocGlobal)) -> anyhow::Result<Tally> {
+pub(crate) fn compare(rt: &(impl Print + AllocGlobal)) -> anyhow::Result<Tally> {
     let mut tally = Tally::default();
     for seed in 0..2400 {
         tally.count(rt, &Driven::run(rt.alloc(), seed)?)?;

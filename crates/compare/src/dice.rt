@@ -1,11 +1,11 @@
 // Pseudo-random numbers, the same ones for the same seed.
 #[derive(Clone, Copy)]
-pub struct Dice {
+pub(crate) struct Dice {
     state: u64,
 }
 
 impl Dice {
-    pub fn new(seed: u32) -> Dice {
+    pub(crate) fn new(seed: u32) -> Dice {
         Dice {
             state: u64::from(seed),
         }
@@ -19,21 +19,21 @@ impl Dice {
     }
 
     // A number below the bound, or 0 where the bound is 0.
-    pub fn below(&mut self, bound: u16) -> u16 {
+    pub(crate) fn below(&mut self, bound: u16) -> u16 {
         (self.roll() % u64::from(bound.max(1))) as u16
     }
 
-    pub fn byte(&mut self) -> u8 {
+    pub(crate) fn byte(&mut self) -> u8 {
         (self.roll() % 256) as u8
     }
 
     // True once in so many times, or never where that is 0.
-    pub fn one_in(&mut self, count: u16) -> bool {
+    pub(crate) fn one_in(&mut self, count: u16) -> bool {
         count != 0 && self.below(count) == 0
     }
 
     // One of these numbers, or 0 where there is none.
-    pub fn one_of(&mut self, choices: &[u16]) -> u16 {
+    pub(crate) fn one_of(&mut self, choices: &[u16]) -> u16 {
         let count = u16::try_from(choices.len()).unwrap_or(u16::MAX);
         let place = usize::from(self.below(count));
         choices.get(place).copied().unwrap_or(0)

@@ -8,7 +8,7 @@ use line::{DataBits, Level, Parity, StopBits};
 use std::alloc::{AllocError, Global};
 
 #[derive(Clone, Copy, Debug)]
-pub enum Step {
+pub(crate) enum Step {
     Write { address: u16, value: u8 },
     Read { address: u16 },
     // with the level on the line that is received
@@ -19,7 +19,7 @@ pub enum Step {
 
 impl Step {
     // Whether it puts the chip in reset.
-    pub fn resets(self) -> bool {
+    pub(crate) fn resets(self) -> bool {
         match self {
             Step::Write {
                 address: address::UCTL,
@@ -129,7 +129,11 @@ fn push_life(
     Ok(())
 }
 
-pub fn some_steps(heap: Global, dice: &mut Dice, shape: Shape) -> Result<Vec<Step>, AllocError> {
+pub(crate) fn some_steps(
+    heap: Global,
+    dice: &mut Dice,
+    shape: Shape,
+) -> Result<Vec<Step>, AllocError> {
     let mut steps = Vec::new(heap);
     for _ in 0..dice.below(2).saturating_add(1) {
         push_life(heap, &mut steps, dice, shape)?;

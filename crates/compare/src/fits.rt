@@ -92,7 +92,7 @@ impl Setup {
         }
     }
 
-    // What the bit suffers from some phase and some beginning, early first.
+    // What the bit suffers from some phase and some beginning, early first. Loops and no chain: the first early one ends both.
     fn worst(&self, bit: usize) -> Option<Fault> {
         let mut found = None;
         for phase in 0..self.rates.receive {
@@ -179,7 +179,7 @@ impl fmt::Display for Rated {
     }
 }
 
-pub fn compare(rt: &impl Print) -> io::Result<Tally> {
+pub(crate) fn compare(rt: &impl Print) -> io::Result<Tally> {
     let mut tally = Tally::default();
     for seed in 0..1500 {
         if let Some(case) = Rated::run(seed) {

@@ -51,7 +51,7 @@ impl fmt::Display for Framed {
     }
 }
 
-pub fn compare_frames(rt: &impl Print) -> io::Result<Tally> {
+pub(crate) fn compare_frames(rt: &impl Print) -> io::Result<Tally> {
     let mut tally = Tally::default();
     for shape in (0..24).map(Shape::numbered) {
         for character in 0..shape.characters() {
@@ -186,7 +186,7 @@ fn any_gear(dice: &mut Dice) -> Gear {
     }
 }
 
-pub fn compare_times(rt: &impl Print) -> io::Result<Tally> {
+pub(crate) fn compare_times(rt: &impl Print) -> io::Result<Tally> {
     let mut tally = Tally::default();
     for seed in 0..1200 {
         tally.count(rt, &Timed::run(seed))?;

@@ -4,26 +4,26 @@ use super::times::End;
 use line::{Level, Parity};
 use std::alloc::{AllocError, Global};
 
-pub const OVERRUN: u8 = 1;
+pub(crate) const OVERRUN: u8 = 1;
 
-pub const PARITY: u8 = 2;
+pub(crate) const PARITY: u8 = 2;
 
-pub const FRAMING: u8 = 4;
+pub(crate) const FRAMING: u8 = 4;
 
-pub const BREAK: u8 = 8;
+pub(crate) const BREAK: u8 = 8;
 
 // A character and its flags.
 #[derive(Clone, Copy, PartialEq, Debug)]
-pub struct Entry {
-    pub character: u16,
-    pub flags: u8,
+pub(crate) struct Entry {
+    pub(crate) character: u16,
+    pub(crate) flags: u8,
 }
 
 // An entry, and the clock at which it arrives.
 #[derive(Clone, Copy)]
-pub struct Arrival {
-    pub clock: usize,
-    pub entry: Entry,
+pub(crate) struct Arrival {
+    pub(crate) clock: usize,
+    pub(crate) entry: Entry,
 }
 
 // What stands after an edge; a frame or a false start is over at its last clock.
@@ -116,7 +116,7 @@ fn stays_at_space(levels: &[Level], first: usize, last: usize) -> bool {
 }
 
 // All entries, by the clocks at which they arrive.
-pub fn heard(heap: Global, end: &End, levels: &[Level]) -> Result<Vec<Arrival>, AllocError> {
+pub(crate) fn heard(heap: Global, end: &End, levels: &[Level]) -> Result<Vec<Arrival>, AllocError> {
     let mut arrivals = Vec::new(heap);
     let mut from = 0;
     // there are no more edges than levels

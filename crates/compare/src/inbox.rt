@@ -4,20 +4,20 @@ use std::alloc::{AllocError, Global};
 use std::collections::VecDeque;
 
 #[derive(Drop)]
-pub struct Inbox {
+pub(crate) struct Inbox {
     unread: VecDeque<Entry>,
     capacity: usize,
 }
 
 impl Inbox {
-    pub fn new(heap: Global, capacity: usize) -> Inbox {
+    pub(crate) fn new(heap: Global, capacity: usize) -> Inbox {
         Inbox {
             unread: VecDeque::new(heap),
             capacity,
         }
     }
 
-    pub fn arrive(&mut self, entry: Entry) -> Result<(), AllocError> {
+    pub(crate) fn arrive(&mut self, entry: Entry) -> Result<(), AllocError> {
         let mut all = entry;
         if self.unread.len() >= self.capacity {
             if let Some(lost) = self.unread.pop_back() {
@@ -28,7 +28,7 @@ impl Inbox {
         Ok(())
     }
 
-    pub fn read(&mut self) -> Option<Entry> {
+    pub(crate) fn read(&mut self) -> Option<Entry> {
         self.unread.pop_front()
     }
 }

@@ -2,7 +2,7 @@
 use line::Level;
 
 // Mark for an odd number.
-pub fn level_of(number: u32) -> Level {
+pub(crate) fn level_of(number: u32) -> Level {
     if number % 2 == 0 {
         Level::Space
     } else {
@@ -11,7 +11,7 @@ pub fn level_of(number: u32) -> Level {
 }
 
 // The byte that stands for a level in a picture.
-pub fn byte_of(level: Level) -> u8 {
+pub(crate) fn byte_of(level: Level) -> u8 {
     match level {
         Level::Space => 0,
         Level::Mark => 1,

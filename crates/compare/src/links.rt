@@ -255,7 +255,7 @@ impl fmt::Display for Linked {
     }
 }
 
-pub fn compare(rt: &(impl Print + AllocGlobal)) -> anyhow::Result<Tally> {
+pub(crate) fn compare(rt: &(impl Print + AllocGlobal)) -> anyhow::Result<Tally> {
     let mut tally = Tally::default();
     for seed in 0..2400 {
         if let Some(case) = Linked::run(rt.alloc(), seed)? {

@@ -108,7 +108,7 @@ impl fmt::Display for Drawn {
     }
 }
 
-pub fn compare(rt: &(impl Print + AllocGlobal)) -> anyhow::Result<Tally> {
+pub(crate) fn compare(rt: &(impl Print + AllocGlobal)) -> anyhow::Result<Tally> {
     let mut tally = Tally::default();
     for seed in 0..2400 {
         if let Some(case) = Drawn::run(rt.alloc(), seed)? {

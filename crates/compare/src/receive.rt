@@ -21,15 +21,15 @@ fn errors(flags: u8) -> u8 {
 }
 
 #[derive(Clone, Copy)]
-pub struct Receive {
-    pub urxifg: bool,
+pub(crate) struct Receive {
+    pub(crate) urxifg: bool,
     // URCTL but for RXERR
     urctl: u8,
     urxbuf: u8,
 }
 
 impl Receive {
-    pub fn power_up() -> Receive {
+    pub(crate) fn power_up() -> Receive {
         Receive {
             urxifg: false,
             urctl: 0,
@@ -37,7 +37,7 @@ impl Receive {
         }
     }
 
-    pub fn arrive(&mut self, received: Received) {
+    pub(crate) fn arrive(&mut self, received: Received) {
         let Received { shape, entry, .. } = received;
         let values = match shape.data {
             DataBits::Seven => 128,
@@ -65,17 +65,17 @@ impl Receive {
         self.urxifg = true;
     }
 
-    pub fn reset(&mut self) {
+    pub(crate) fn reset(&mut self) {
         self.urxifg = false;
         self.urctl &= ENABLES;
     }
 
     // A 0 clears a flag and a 1 leaves it; the enables are stored.
-    pub fn write_urctl(&mut self, value: u8) {
+    pub(crate) fn write_urctl(&mut self, value: u8) {
         self.urctl = self.urctl & value & !ENABLES | value & ENABLES;
     }
 
-    pub fn read_urctl(&self) -> u8 {
+    pub(crate) fn read_urctl(&self) -> u8 {
         if self.urctl & ERRORS != 0 {
             self.urctl | address::RXERR
         } else {
@@ -83,7 +83,7 @@ impl Receive {
         }
     }
 
-    pub fn read_urxbuf(&mut self) -> u8 {
+    pub(crate) fn read_urxbuf(&mut self) -> u8 {
         self.reset();
         self.urxbuf
     }

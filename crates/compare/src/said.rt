@@ -4,7 +4,7 @@ use line::{Level, Refusal};
 use std::fmt;
 
 #[derive(Clone, Copy, PartialEq, Debug)]
-pub enum Said {
+pub(crate) enum Said {
     Done,
     // the level on the line
     Line(Level),
@@ -15,7 +15,7 @@ pub enum Said {
     Flags { utxifg: bool, urxifg: bool },
 }
 
-pub type Answer = Result<Said, Refusal>;
+pub(crate) type Answer = Result<Said, Refusal>;
 
 // The numbers of the refusals, written apart from the library's.
 fn number(refusal: Refusal) -> u8 {
@@ -35,14 +35,14 @@ fn number(refusal: Refusal) -> u8 {
 
 // What each emulator says.
 #[derive(Clone, Copy, Drop)]
-pub struct Both<T> {
-    pub own: T,
-    pub library: T,
+pub(crate) struct Both<T> {
+    pub(crate) own: T,
+    pub(crate) library: T,
 }
 
 impl<T: PartialEq> Both<Result<T, Refusal>> {
     // Whether they say the same, a refusal by its number.
-    pub fn agree(&self) -> bool {
+    pub(crate) fn agree(&self) -> bool {
         match (&self.own, &self.library) {
             (Ok(mine), Ok(theirs)) => mine == theirs,
             (Err(mine), Err(theirs)) => number(*mine) == u8::from(*theirs),
@@ -61,7 +61,7 @@ impl<T: fmt::Debug> fmt::Display for Both<T> {
 // Two lists of answers.
 impl Both<Vec<Answer>> {
     // The first place where they differ, if there is one.
-    pub fn difference(&self) -> Option<usize> {
+    pub(crate) fn difference(&self) -> Option<usize> {
         let own = self.own.iter();
         let shorter = self.own.len().min(self.library.len());
         own.zip(self.library.iter())
@@ -74,7 +74,7 @@ impl Both<Vec<Answer>> {
     }
 
     // What each says at a place.
-    pub fn at(&self, place: usize) -> Both<Option<Answer>> {
+    pub(crate) fn at(&self, place: usize) -> Both<Option<Answer>> {
         Both {
             own: self.own.get(place).copied(),
             library: self.library.get(place).copied(),

@@ -71,7 +71,11 @@ fn breaks(heap: Global, end: &End, dice: &mut Dice) -> Result<Vec<u8>, AllocErro
 }
 
 // A clean picture, a spoiled one or a random one.
-pub fn some_picture(heap: Global, end: &End, dice: &mut Dice) -> Result<Vec<u8>, AllocError> {
+pub(crate) fn some_picture(
+    heap: Global,
+    end: &End,
+    dice: &mut Dice,
+) -> Result<Vec<u8>, AllocError> {
     let longest = (end.frame_clocks.min(300) as u16).saturating_mul(2);
     let mut picture = match dice.below(6) {
         0 => frames(heap, end, dice)?,
@@ -100,7 +104,7 @@ pub fn some_picture(heap: Global, end: &End, dice: &mut Dice) -> Result<Vec<u8>,
 }
 
 // The levels of a picture's bytes; any but 0 and 1 counts as a mark.
-pub fn levels(heap: Global, picture: &[u8]) -> Result<Vec<Level>, AllocError> {
+pub(crate) fn levels(heap: Global, picture: &[u8]) -> Result<Vec<Level>, AllocError> {
     picture
         .iter()
         .map(|byte| level_of(u32::from((*byte).min(1))))
@@ -177,7 +181,7 @@ impl fmt::Display for Scanned {
     }
 }
 
-pub fn compare(rt: &(impl Print + AllocGlobal)) -> anyhow::Result<Tally> {
+pub(crate) fn compare(rt: &(impl Print + AllocGlobal)) -> anyhow::Result<Tally> {
     let mut tally = Tally::default();
     for seed in 0..4800 {
         if let Some(case) = Scanned::run(rt.alloc(), seed)? {

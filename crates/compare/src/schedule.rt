@@ -10,13 +10,13 @@ struct Frame {
 }
 
 #[derive(Drop)]
-pub struct Schedule {
+pub(crate) struct Schedule {
     end: End,
     frames: Vec<Frame>,
 }
 
 impl Schedule {
-    pub fn new(heap: Global, end: End) -> Schedule {
+    pub(crate) fn new(heap: Global, end: End) -> Schedule {
         Schedule {
             end,
             frames: Vec::new(heap),
@@ -31,7 +31,7 @@ impl Schedule {
     }
 
     // How many characters have not begun before this clock.
-    pub fn waiting(&self, clock: u32) -> usize {
+    pub(crate) fn waiting(&self, clock: u32) -> usize {
         self.frames
             .iter()
             .filter(|frame| frame.begin >= clock)
@@ -39,19 +39,19 @@ impl Schedule {
     }
 
     // Whether nothing is left of any frame before this clock.
-    pub fn is_over(&self, clock: u32) -> bool {
+    pub(crate) fn is_over(&self, clock: u32) -> bool {
         self.free() <= clock
     }
 
     // Takes a character that is loaded just before this clock.
-    pub fn add(&mut self, clock: u32, character: u16) -> Result<(), AllocError> {
+    pub(crate) fn add(&mut self, clock: u32, character: u16) -> Result<(), AllocError> {
         let begin = self.free().max(clock);
         self.frames.push(Frame { begin, character })?;
         Ok(())
     }
 
     // The level at a clock.
-    pub fn level(&self, clock: u32) -> Level {
+    pub(crate) fn level(&self, clock: u32) -> Level {
         let begun = self.frames.iter().rev().find(|frame| frame.begin <= clock);
         begun.map_or(Level::Mark, |frame| {
             self.end

@@ -6,16 +6,16 @@ use std::fmt;
 
 // A format in the library's words. What they mean is written apart from it.
 #[derive(Clone, Copy, PartialEq)]
-pub struct Shape {
-    pub data: DataBits,
-    pub address: bool,
-    pub parity: Parity,
-    pub stops: StopBits,
+pub(crate) struct Shape {
+    pub(crate) data: DataBits,
+    pub(crate) address: bool,
+    pub(crate) parity: Parity,
+    pub(crate) stops: StopBits,
 }
 
 impl Shape {
     // Each of the 24 has a number below 24.
-    pub fn numbered(number: u16) -> Shape {
+    pub(crate) fn numbered(number: u16) -> Shape {
         Shape {
             data: if number % 2 == 0 {
                 DataBits::Seven
@@ -37,7 +37,7 @@ impl Shape {
     }
 
     // A format for the other end: it agrees, but once in so many times it is any.
-    pub fn partner(self, dice: &mut Dice, strange: u16) -> Shape {
+    pub(crate) fn partner(self, dice: &mut Dice, strange: u16) -> Shape {
         if dice.one_in(strange) {
             return Shape::numbered(dice.below(24));
         }
@@ -49,31 +49,31 @@ impl Shape {
         Shape { stops, ..self }
     }
 
-    pub fn agrees(self, other: Shape) -> bool {
+    pub(crate) fn agrees(self, other: Shape) -> bool {
         let stops = self.stops;
         self == Shape { stops, ..other }
     }
 
-    pub fn data_bits(self) -> u8 {
+    pub(crate) fn data_bits(self) -> u8 {
         match self.data {
             DataBits::Seven => 7,
             DataBits::Eight => 8,
         }
     }
 
-    pub fn stop_bits(self) -> u8 {
+    pub(crate) fn stop_bits(self) -> u8 {
         match self.stops {
             StopBits::One => 1,
             StopBits::Two => 2,
         }
     }
 
-    pub fn width(self) -> usize {
+    pub(crate) fn width(self) -> usize {
         usize::from(self.data_bits()) + usize::from(self.address)
     }
 
     // The number of the first stop bit.
-    pub fn first_stop(self) -> usize {
+    pub(crate) fn first_stop(self) -> usize {
         let parity = match self.parity {
             Parity::Absent => 0,
             Parity::Odd | Parity::Even => 1,
@@ -81,18 +81,18 @@ impl Shape {
         1 + usize::from(self.data_bits()) + usize::from(self.address) + parity
     }
 
-    pub fn bits(self) -> usize {
+    pub(crate) fn bits(self) -> usize {
         self.first_stop()
             .saturating_add(usize::from(self.stop_bits()))
     }
 
     // How many characters there are.
-    pub fn characters(self) -> u16 {
+    pub(crate) fn characters(self) -> u16 {
         1u16 << (self.width() % 16)
     }
 
     // A character of the format, but one in so many too wide, or none where that is 0.
-    pub fn character(self, dice: &mut Dice, wide: u16) -> u16 {
+    pub(crate) fn character(self, dice: &mut Dice, wide: u16) -> u16 {
         let inside = dice.below(self.characters());
         if dice.one_in(wide) {
             inside.saturating_add(self.characters())
@@ -102,7 +102,7 @@ impl Shape {
     }
 
     // The level of a bit in the frame of a character that is not too wide.
-    pub fn level(self, character: u16, bit: usize) -> Level {
+    pub(crate) fn level(self, character: u16, bit: usize) -> Level {
         if bit == 0 {
             return Level::Space;
         }

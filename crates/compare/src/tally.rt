@@ -2,18 +2,18 @@
 use std::{fmt, io};
 
 // What both emulators made of a case. It is printed where it is the first that differs.
-pub trait Case: fmt::Display {
+pub(crate) trait Case: fmt::Display {
     fn is_same(&self) -> bool;
 }
 
 #[derive(Clone, Copy, Default)]
-pub struct Tally {
+pub(crate) struct Tally {
     cases: u32,
-    pub differences: u32,
+    pub(crate) differences: u32,
 }
 
 impl Tally {
-    pub fn count<C: Case>(&mut self, rt: &impl Print, case: &C) -> io::Result<()> {
+    pub(crate) fn count<C: Case>(&mut self, rt: &impl Print, case: &C) -> io::Result<()> {
         self.cases = self.cases.saturating_add(1);
         if case.is_same() {
             return Ok(());

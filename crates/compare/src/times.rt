@@ -9,7 +9,7 @@ use usart::Usart;
 
 // The settings of an end.
 #[derive(Clone, Copy, Debug)]
-pub enum Gear {
+pub(crate) enum Gear {
     Usart { divider: u16, modulator: u8 },
     Port { divider: u16 },
 }
@@ -46,7 +46,7 @@ impl Gear {
         ]
     }
 
-    pub fn break_length(self) -> u32 {
+    pub(crate) fn break_length(self) -> u32 {
         match self {
             Gear::Port { divider } => 160 * u32::from(divider),
             Gear::Usart { divider, .. } => 10 * u32::from(divider),
@@ -54,7 +54,7 @@ impl Gear {
     }
 
     // Whether an end of this format can have these settings.
-    pub fn suits(self, shape: Shape) -> bool {
+    pub(crate) fn suits(self, shape: Shape) -> bool {
         match self {
             Gear::Port { divider } => divider >= 1 && divider <= 4096 && !shape.address,
             Gear::Usart { divider, .. } => divider >= 3,
@@ -71,17 +71,17 @@ fn spread(clocks: u32) -> u32 {
 
 // An end of a line: a format, and the times that its settings give.
 #[derive(Clone, Copy)]
-pub struct End {
-    pub shape: Shape,
-    pub gear: Gear,
+pub(crate) struct End {
+    pub(crate) shape: Shape,
+    pub(crate) gear: Gear,
     // where each bit begins, and at 13 where the last one would end
-    pub starts: [u32; 14],
-    pub samples: [[u32; 3]; 12],
-    pub frame_clocks: u32,
+    pub(crate) starts: [u32; 14],
+    pub(crate) samples: [[u32; 3]; 12],
+    pub(crate) frame_clocks: u32,
 }
 
 impl End {
-    pub fn new(shape: Shape, gear: Gear) -> End {
+    pub(crate) fn new(shape: Shape, gear: Gear) -> End {
         End {
             shape,
             gear,
@@ -92,7 +92,7 @@ impl End {
     }
 
     // An end of this format with short bits, so that many cases can be run.
-    pub fn short(dice: &mut Dice, shape: Shape) -> End {
+    pub(crate) fn short(dice: &mut Dice, shape: Shape) -> End {
         let gear = if !shape.address && dice.one_in(4) {
             Gear::Port { divider: 1 }
         } else {
@@ -105,17 +105,17 @@ impl End {
     }
 
     // The clocks before a bit, 0 past the last one.
-    pub fn start(&self, bit: usize) -> u32 {
+    pub(crate) fn start(&self, bit: usize) -> u32 {
         self.starts.get(bit).copied().unwrap_or(0)
     }
 
     // The sample clocks of a bit, 0 past the last one.
-    pub fn sampled(&self, bit: usize) -> [u32; 3] {
+    pub(crate) fn sampled(&self, bit: usize) -> [u32; 3] {
         self.samples.get(bit).copied().unwrap_or([0; 3])
     }
 
     // The level at a clock of the frame of a character, mark past its end.
-    pub fn level(&self, character: u16, clock: u32) -> Level {
+    pub(crate) fn level(&self, character: u16, clock: u32) -> Level {
         let ends = self.starts.iter().skip(1);
         let bit = ends.take_while(|end| **end <= clock).count();
         self.shape.level(character, bit)
@@ -138,14 +138,14 @@ impl TryFrom<End> for Timing {
 
 // The two ends of a line.
 #[derive(Clone, Copy)]
-pub struct Pair {
-    pub sender: End,
-    pub receiver: End,
+pub(crate) struct Pair {
+    pub(crate) sender: End,
+    pub(crate) receiver: End,
 }
 
 impl Pair {
     // Short ends of formats that agree, but once in so many times the receiver's is any.
-    pub fn short(dice: &mut Dice, number: u16, strange: u16) -> Pair {
+    pub(crate) fn short(dice: &mut Dice, number: u16, strange: u16) -> Pair {
         let shape = Shape::numbered(number % 24);
         let other = shape.partner(dice, strange);
         Pair {
@@ -154,12 +154,12 @@ impl Pair {
         }
     }
 
-    pub fn agrees(&self) -> bool {
+    pub(crate) fn agrees(&self) -> bool {
         self.sender.shape.agrees(self.receiver.shape)
     }
 
     // The library's times for both.
-    pub fn timings(&self) -> Result<(Timing, Timing), Refusal> {
+    pub(crate) fn timings(&self) -> Result<(Timing, Timing), Refusal> {
         let from = Timing::try_from(self.sender)?;
         let to = Timing::try_from(self.receiver)?;
         Ok((from, to))

@@ -10,10 +10,10 @@ use std::alloc::{AllocError, Global};
 
 // An entry that arrives, and the step of the case at which it does.
 #[derive(Clone, Copy)]
-pub struct Received {
-    pub step: usize,
-    pub shape: Shape,
-    pub entry: Entry,
+pub(crate) struct Received {
+    pub(crate) step: usize,
+    pub(crate) shape: Shape,
+    pub(crate) entry: Entry,
 }
 
 // A clock: the level heard at it, and the step of the case at which it was given.
@@ -33,7 +33,7 @@ struct Released {
 }
 
 #[derive(Drop)]
-pub struct Transmit {
+pub(crate) struct Transmit {
     uctl: u8,
     utctl: u8,
     umctl: u8,
@@ -111,7 +111,7 @@ impl Released {
 }
 
 impl Transmit {
-    pub fn power_up() -> Transmit {
+    pub(crate) fn power_up() -> Transmit {
         Transmit {
             uctl: address::SWRST,
             utctl: 0,
@@ -127,7 +127,7 @@ impl Transmit {
         self.released.is_none()
     }
 
-    pub fn utxifg(&self) -> bool {
+    pub(crate) fn utxifg(&self) -> bool {
         self.released
             .as_ref()
             .is_none_or(|released| released.has_room())
@@ -185,7 +185,12 @@ impl Transmit {
         Ok(Ok(Said::Done))
     }
 
-    pub fn write(&mut self, heap: Global, register: u16, value: u8) -> Result<Answer, AllocError> {
+    pub(crate) fn write(
+        &mut self,
+        heap: Global,
+        register: u16,
+        value: u8,
+    ) -> Result<Answer, AllocError> {
         match register {
             address::UCTL => Ok(self.write_uctl(heap, value)),
             address::UTXBUF => self.write_utxbuf(value),
@@ -220,7 +225,7 @@ impl Transmit {
     }
 
     // 0 for the two registers of the other half.
-    pub fn read(&self, register: u16) -> Answer {
+    pub(crate) fn read(&self, register: u16) -> Answer {
         Ok(Said::Byte(match register {
             address::UCTL => self.uctl,
             address::UTCTL if self.is_over() => self.utctl | address::TXEPT,
@@ -235,7 +240,7 @@ impl Transmit {
     }
 
     // The level that is sent: mark in reset.
-    pub fn clock(&mut self, level: Level, step: usize) -> Result<Level, AllocError> {
+    pub(crate) fn clock(&mut self, level: Level, step: usize) -> Result<Level, AllocError> {
         let listens = self.uctl & address::LISTEN != 0;
         match &mut self.released {
             None => Ok(Level::Mark),
@@ -244,7 +249,11 @@ impl Transmit {
     }
 
     // Before a reset and at the end of a case: what was taken down since the release.
-    pub fn hand_over(&self, heap: Global, received: &mut Vec<Received>) -> Result<(), AllocError> {
+    pub(crate) fn hand_over(
+        &self,
+        heap: Global,
+        received: &mut Vec<Received>,
+    ) -> Result<(), AllocError> {
         match &self.released {
             None => Ok(()),
             Some(released) => released.hand_over(heap, received),

@@ -220,6 +220,7 @@ fn an_address_passes_where_only_addresses_count(rt: HostRuntime) -> Result<(), F
 }
 
 // URXEIE, URXWIE, whether the character has an error, whether it is an address, and whether URXIFG is then set.
+// Bools and no struct, so that each row reads as the table's.
 const ENABLES: [(bool, bool, bool, bool, bool); 16] = [
     (false, false, true, false, false),
     (false, false, true, true, false),
