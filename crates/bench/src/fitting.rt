@@ -5,6 +5,7 @@ use anyhow::bail;
 use line::Refusal;
 use link::Verdict;
 use sheet::{Clocked, Off, Way};
+use std::alloc::Global;
 use std::io;
 
 const TAKES: Takes = Takes {
@@ -30,18 +31,21 @@ fn print_range(rt: &impl Print, whose: &str, way: Way, off: Off) -> io::Result<(
     )
 }
 
-pub(crate) fn command(rt: &(impl Print + AllocGlobal), words: &[String]) -> anyhow::Result<()> {
-    let words = Words::parse(rt.alloc(), TAKES, words)?;
+// The way that the words name.
+fn way_named(alloc: Global, words: &Words) -> anyhow::Result<Way> {
     let format = words.format()?;
     let from = Clocked {
-        timing: end_named(rt.alloc(), format, words.needed(0, "sender")?)?,
+        timing: end_named(alloc, format, words.needed(0, "sender")?)?,
         hertz: number(words.needed(1, "sender's rate")?, "sender's rate")?,
     };
     let to = Clocked {
-        timing: end_named(rt.alloc(), format, words.needed(2, "receiver")?)?,
+        timing: end_named(alloc, format, words.needed(2, "receiver")?)?,
         hertz: number(words.needed(3, "receiver's rate")?, "receiver's rate")?,
     };
-    let way = Way { from, to };
+    Ok(Way { from, to })
+}
+
+fn print_verdict(rt: &impl Print, way: Way) -> anyhow::Result<()> {
     match way.verdict() {
         Ok(Verdict::Passes) => {
             println!(rt; "They fit: every character arrives as it was sent.")?;
@@ -58,4 +62,13 @@ pub(crate) fn command(rt: &(impl Print + AllocGlobal), words: &[String]) -> anyh
         Err(_) => bail!("the two formats do not agree"),
     }
     Ok(())
+}
+
+pub(crate) fn command(
+    rt: &(impl Print + AllocGlobal),
+    words: &[String],
+) -> anyhow::Result<()> {
+    let words = Words::parse(rt.alloc(), TAKES, words)?;
+    let way = way_named(rt.alloc(), &words)?;
+    print_verdict(rt, way)
 }
