@@ -17,7 +17,7 @@ use super::samples::Samples;
 use super::timing::Timing;
 use line::{Format, Level, Refusal};
 
-// The flags of an entry, which is a pair of plain numbers: each flag is one bit of the second.
+// The flags of an entry, each one bit of its second number: an entry is a pair of plain numbers by a rule of the project.
 pub const OVERRUN: u8 = 1;
 
 pub const PARITY: u8 = 2;
@@ -217,6 +217,7 @@ impl Receiver for BareReceiver {
                     Progress::GoesOn => {}
                     Progress::FalseStart => self.doing = Doing::Idle,
                     Progress::Over(entry) => {
+                        // a frame has no flags but PARITY and FRAMING, and this is the test that the spec has
                         let next = if entry.1 < FRAMING {
                             Doing::Idle
                         } else {
