@@ -5,7 +5,7 @@ ghost use Rattle.sheet.specs.Tolerance.{own_rate};
 use ends::{Receiver, Sender};
 use link::{Rates, Verdict, fit};
 
-// One more than the greatest rate that Fit takes.
+// One more than the greatest rate that Fit takes, which link keeps to itself.
 const ABOVE_ALL: u32 = 16_777_217;
 
 // The end whose clock is off.
