@@ -1,5 +1,5 @@
 -- The letter is the digit of the count.
-use Rattle.std.proofs.Common.{◌≡◌, ◌+◌, arith, rules}
+use Rattle.std.proofs.Common.{◌≡◌, ◌+◌, rules}
 use Rattle.line.specs.Frames.{stop_count}
 use Rattle.words.specs.Names.{stops_letter}
 use Rattle.words.proofs.Letters.{by_digit, stops_digit}
