@@ -31,6 +31,7 @@ pub extern "C" fn hotskrebi_run(
     answer_number(run_bare(sender, receiver, acts, answers))
 }
 
+// A function of its own, as run_queued is: `?` needs one that answers a Result, and a closure of `and_then` would lend the answers.
 fn run_bare(
     sender: &EndNumbers,
     receiver: &EndNumbers,

@@ -51,7 +51,8 @@ fn frame_clocks(timing: &Timing) -> usize
         .sum()
 }
 
-// Draws the frame of a character at the beginning of the part.
+// Draws the frame of a character at the beginning of the part. The place is counted by hand: tried with `split_at_mut` of a part that shrinks
+// run by run, the goal that is left says what the whole part became, and of that nothing is known once its pieces are lent.
 fn draw_frame(timing: &Timing, character: u16, part: &mut [u8])
     requires { frame_clocks timing.now ≤ length part.old }
     ensures { part.new ≡ drawn_frame timing.now character ++ drop (frame_clocks timing.now) part.old }
