@@ -54,3 +54,10 @@ pub(crate) const URXWIE: u8 = 0x04;
 pub(crate) const RXWAKE: u8 = 0x02;
 
 pub(crate) const RXERR: u8 = 0x01;
+
+// The masks of those that are set, in one byte.
+pub(crate) fn joined(bits: &[(u8, bool)]) -> u8 {
+    bits.iter()
+        .filter(|(_, set)| *set)
+        .fold(0u8, |value, (bit, _)| value | *bit)
+}

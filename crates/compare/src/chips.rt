@@ -5,7 +5,7 @@ use super::firmware::{Step, some_steps};
 use super::receive::Receive;
 use super::said::{Answer, Both, Said};
 use super::shape::Shape;
-use super::tally::{Case, Tally};
+use super::tally::{Case, Numbered};
 use super::transmit::{Received, Transmit};
 use chip::Chip;
 use std::alloc::{AllocError, Global};
@@ -93,17 +93,16 @@ fn by_library(heap: Global, steps: &[Step]) -> Result<Vec<Answer>, AllocError> {
     Ok(answers)
 }
 
-// The answers of both emulators, and the first place where they differ.
+// The answers of both emulators.
 #[derive(Drop)]
-struct Driven {
+pub(crate) struct Driven {
     seed: u16,
     steps: Vec<Step>,
     answers: Both<Vec<Answer>>,
-    difference: Option<usize>,
 }
 
-impl Driven {
-    fn run(heap: Global, seed: u16) -> Result<Driven, AllocError> {
+impl Numbered for Driven {
+    fn run(heap: Global, seed: u16) -> Result<Option<Driven>, AllocError> {
         let mut dice = Dice::new(u32::from(seed));
         let shape = Shape::numbered(seed % 24);
         let steps = some_steps(heap, &mut dice, shape)?;
@@ -111,26 +110,24 @@ impl Driven {
             own: by_times(heap, steps.as_slice())?,
             library: by_library(heap, steps.as_slice())?,
         };
-        let difference = answers.difference();
-        Ok(Driven {
+        Ok(Some(Driven {
             seed,
             steps,
             answers,
-            difference,
-        })
+        }))
     }
 }
 
 impl Case for Driven {
     fn is_same(&self) -> bool {
-        self.difference.is_none()
+        self.answers.difference().is_none()
     }
 }
 
 impl fmt::Display for Driven {
     fn fmt<W: fmt::Write>(&self, f: &mut fmt::Formatter<W>) -> fmt::Result {
         let seed = self.seed;
-        let place = self.difference.unwrap_or(0);
+        let place = self.answers.difference().unwrap_or(0);
         writeln!(
             f,
             "seed {seed}, to step {place}, counted from 0, of {:?}",
@@ -138,12 +135,4 @@ impl fmt::Display for Driven {
         )?;
         write!(f, "{}", self.answers.at(place))
     }
-}
-
-pub(crate) fn compare(rt: &(impl Print + AllocGlobal)) -> anyhow::Result<Tally> {
-    let mut tally = Tally::default();
-    for seed in 0..2400 {
-        tally.count(rt, &Driven::run(rt.alloc(), seed)?)?;
-    }
-    Ok(tally)
 }

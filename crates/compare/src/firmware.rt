@@ -69,7 +69,7 @@ fn some_step(dice: &mut Dice) -> Step {
 
 // UCTL for a format, with SWRST 0, now and then with SYNC set.
 fn control(dice: &mut Dice, shape: Shape) -> u8 {
-    let bits = [
+    address::joined(&[
         (address::PENA, shape.parity != Parity::Absent),
         (address::PEV, shape.parity == Parity::Even),
         (address::SP, shape.stops == StopBits::Two),
@@ -77,10 +77,7 @@ fn control(dice: &mut Dice, shape: Shape) -> u8 {
         (address::MM, shape.address),
         (address::LISTEN, dice.one_in(2)),
         (address::SYNC, dice.one_in(20)),
-    ];
-    bits.iter()
-        .filter(|(_, set)| *set)
-        .fold(0u8, |value, (bit, _)| value | *bit)
+    ])
 }
 
 // From a reset to the next one.

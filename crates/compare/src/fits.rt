@@ -1,69 +1,53 @@
 // Fit against its definition: every phase of two steady clocks, and every send clock at which a frame can begin.
 use super::dice::Dice;
 use super::said::Both;
-use super::tally::{Case, Tally};
+use super::tally::{Case, Numbered};
 use super::times::Pair;
-use ends::{BareReceiver, BareSender, Timing};
+use ends::{BareReceiver, BareSender};
 use line::Refusal;
 use link::{Rates, Verdict, fit};
-use std::{fmt, io};
+use std::alloc::{AllocError, Global};
+use std::fmt;
 
-// Whether a bit is sampled before it is held, or left before it is sampled.
-#[derive(Clone, Copy, PartialEq, Debug)]
-enum Fault {
-    Early,
-    Late,
-}
-
-#[derive(Clone, Copy, PartialEq, Debug)]
-struct Failure {
-    bit: usize,
-    fault: Fault,
-}
-
-// The lowest bit with a fault, if there is one.
-type Finding = Result<Option<Failure>, Refusal>;
-
-// So many send clocks come to so many receive clocks, from a phase below the latter.
+// Two clocks, from a phase below the rate of the receive clock.
 #[derive(Clone, Copy)]
 struct Clocks {
-    send: u64,
-    receive: u64,
-    phase: u64,
+    rates: Rates,
+    phase: u32,
 }
 
 impl Clocks {
     // The last send clock given before a receive clock, counted from 1, and 0 where there was none.
     fn sent(self, receive_clock: u64) -> u64 {
         receive_clock
-            .saturating_mul(self.send)
-            .saturating_add(self.phase)
-            / self.receive.max(1)
+            .saturating_mul(u64::from(self.rates.send))
+            .saturating_add(u64::from(self.phase))
+            / u64::from(self.rates.receive.max(1))
     }
 
     // The first receive clock after a send clock, which counts from 1.
     fn after(self, send_clock: u64) -> u64 {
         send_clock
-            .saturating_mul(self.receive)
-            .saturating_sub(self.phase)
-            .div_ceil(self.send.max(1))
+            .saturating_mul(u64::from(self.rates.receive))
+            .saturating_sub(u64::from(self.phase))
+            .div_ceil(u64::from(self.rates.send.max(1)))
     }
 
     // What happens to a bit of the frame that begins at this send clock, counted from 1.
-    fn fault(self, pair: &Pair, first: u64, bit: usize) -> Option<Fault> {
+    fn fault(self, pair: &Pair, first: u64, bit: usize) -> Option<Verdict> {
         let edge = self.after(first);
         let start = |bit: usize| first.saturating_add(u64::from(pair.sender.start(bit)));
         if self.sent(edge) >= start(1) {
             // the start bit came and went between two receive clocks
-            return Some(Fault::Late);
+            return Some(Verdict::Late(bit));
         }
         let samples = pair.receiver.sampled(bit);
         let sampled = |clock: u32| self.sent(edge.saturating_add(u64::from(clock)));
         if sampled(samples[0]) < start(bit) {
-            return Some(Fault::Early);
+            return Some(Verdict::Early(bit));
         }
         if sampled(samples[2]) >= start(bit.saturating_add(1)) {
-            return Some(Fault::Late);
+            return Some(Verdict::Late(bit));
         }
         None
     }
@@ -93,27 +77,27 @@ impl Setup {
     }
 
     // What the bit suffers from some phase and some beginning, early first. Loops and no chain: the first early one ends both.
-    fn worst(&self, bit: usize) -> Option<Fault> {
+    fn worst(&self, bit: usize) -> Option<Verdict> {
         let mut found = None;
         for phase in 0..self.rates.receive {
             let clocks = Clocks {
-                send: u64::from(self.rates.send),
-                receive: u64::from(self.rates.receive),
-                phase: u64::from(phase),
+                rates: self.rates,
+                phase,
             };
             // the clocks fall alike again after as many send clocks as the rate says
             for first in 0..self.rates.send {
                 match clocks.fault(&self.pair, u64::from(first) + 1, bit) {
-                    Some(Fault::Early) => return Some(Fault::Early),
-                    Some(Fault::Late) => found = Some(Fault::Late),
                     None => {}
+                    Some(Verdict::Early(bit)) => return Some(Verdict::Early(bit)),
+                    late => found = late,
                 }
             }
         }
         found
     }
 
-    fn by_phases(&self) -> Finding {
+    // The verdict on the lowest bit with a fault.
+    fn by_phases(&self) -> Result<Verdict, Refusal> {
         if self.rates.send == 0 || self.rates.receive == 0 {
             return Err(Refusal::OutOfRange);
         }
@@ -121,52 +105,42 @@ impl Setup {
             return Err(Refusal::FormatsDiffer);
         }
         let bits = self.pair.receiver.shape.first_stop().saturating_add(1);
-        Ok((0..bits).find_map(|bit| {
-            let fault = self.worst(bit)?;
-            Some(Failure { bit, fault })
-        }))
+        let worst = (0..bits).find_map(|bit| self.worst(bit));
+        Ok(worst.unwrap_or(Verdict::Passes))
     }
 
-    fn by_library(&self, from: Timing, to: Timing) -> Finding {
-        let sender = BareSender::new(from);
-        let receiver = BareReceiver::new(to);
-        let failure = |bit: usize, fault: Fault| Some(Failure { bit, fault });
-        Ok(match fit(&sender, &receiver, self.rates)? {
-            Verdict::Passes => None,
-            Verdict::Early(bit) => failure(bit, Fault::Early),
-            Verdict::Late(bit) => failure(bit, Fault::Late),
-        })
+    fn by_library(&self) -> Result<Verdict, Refusal> {
+        let (from, to) = self.pair.timings()?;
+        fit(&BareSender::new(from), &BareReceiver::new(to), self.rates)
     }
 }
 
 #[derive(Drop)]
-struct Rated {
+pub(crate) struct Rated {
     seed: u16,
     setup: Setup,
-    findings: Both<Finding>,
+    verdicts: Both<Result<Verdict, Refusal>>,
 }
 
-impl Rated {
-    // None where the library refuses the settings of an end.
-    fn run(seed: u16) -> Option<Rated> {
+impl Numbered for Rated {
+    fn run(_heap: Global, seed: u16) -> Result<Option<Rated>, AllocError> {
         let mut dice = Dice::new(u32::from(seed));
         let pair = Pair::short(&mut dice, seed, 20);
         let setup = Setup::random(&mut dice, pair);
-        let (from, to) = pair.timings().ok()?;
-        Some(Rated {
+        Ok(Some(Rated {
             seed,
             setup,
-            findings: Both {
+            verdicts: Both {
                 own: setup.by_phases(),
-                library: setup.by_library(from, to),
+                library: setup.by_library(),
             },
-        })
+        }))
     }
 }
 
 impl Case for Rated {
     fn is_same(&self) -> bool {
-        self.findings.agree()
+        self.verdicts.agree()
     }
 }
 
@@ -175,16 +149,6 @@ impl fmt::Display for Rated {
         let seed = self.seed;
         let Setup { pair, rates } = self.setup;
         writeln!(f, "seed {seed}, {rates:?}, {pair}")?;
-        write!(f, "{}", self.findings)
+        write!(f, "{}", self.verdicts)
     }
-}
-
-pub(crate) fn compare(rt: &impl Print) -> io::Result<Tally> {
-    let mut tally = Tally::default();
-    for seed in 0..1500 {
-        if let Some(case) = Rated::run(seed) {
-            tally.count(rt, &case)?;
-        }
-    }
-    Ok(tally)
 }

@@ -3,10 +3,11 @@ use super::dice::Dice;
 use super::levels::byte_of;
 use super::said::Both;
 use super::shape::Shape;
-use super::tally::{Case, Tally};
+use super::tally::{Case, Numbered, Tally};
 use super::times::{End, Gear};
 use ends::{BareReceiver, BareSender, Receiver, Sender, Timing};
 use line::{Format, Refusal};
+use std::alloc::{AllocError, Global};
 use std::{fmt, io};
 
 // A frame as binary digits, bit 0 the lowest.
@@ -72,41 +73,38 @@ enum Time {
 #[derive(Clone, Copy, Debug)]
 struct Odd {
     time: Time,
-    place: u8,
+    place: usize,
     library: u32,
     own: u32,
 }
 
 // The first place below a bound at which the library's number and our own differ.
-fn first_odd<F: Fn(u8) -> (u32, u32)>(time: Time, bound: u8, numbers: F) -> Option<Odd>
+fn first_odd<F: Fn(usize) -> (u32, u32)>(time: Time, bound: usize, numbers: F) -> Option<Odd>
     requires { F.IsAlwaysCallable numbers }
 {
-    for place in 0..bound {
+    (0..bound).find_map(|place| {
         let (library, own) = numbers(place);
-        if library != own {
-            return Some(Odd {
-                time,
-                place,
-                library,
-                own,
-            });
-        }
-    }
-    None
+        (library != own).then_some(Odd {
+            time,
+            place,
+            library,
+            own,
+        })
+    })
 }
 
 // An end's times in both emulators.
 #[derive(Drop)]
-struct Timed {
-    seed: u32,
+pub(crate) struct Timed {
+    seed: u16,
     end: End,
     suits: Both<Result<(), Refusal>>,
     odd: Option<Odd>,
 }
 
-impl Timed {
-    fn run(seed: u32) -> Timed {
-        let mut dice = Dice::new(seed);
+impl Numbered for Timed {
+    fn run(_heap: Global, seed: u16) -> Result<Option<Timed>, AllocError> {
+        let mut dice = Dice::new(u32::from(seed));
         let shape = Shape::numbered(dice.below(24));
         let end = End::new(shape, any_gear(&mut dice));
         let timing = Timing::try_from(end);
@@ -115,7 +113,7 @@ impl Timed {
         } else {
             Err(Refusal::OutOfRange)
         };
-        Timed {
+        Ok(Some(Timed {
             seed,
             end,
             suits: Both {
@@ -126,7 +124,7 @@ impl Timed {
                 Ok(timing) if own.is_ok() => odd_time(&end, timing),
                 _ => None,
             },
-        }
+        }))
     }
 }
 
@@ -134,21 +132,22 @@ impl Timed {
 fn odd_time(end: &End, timing: Timing) -> Option<Odd> {
     let sender = BareSender::new(timing);
     let receiver = BareReceiver::new(timing);
-    let length = |bit: u8| {
-        let bit = usize::from(bit);
-        let own = end.start(bit + 1).saturating_sub(end.start(bit));
+    let length = |bit: usize| {
+        let own = end
+            .start(bit.saturating_add(1))
+            .saturating_sub(end.start(bit));
         (sender.bit_length(bit), own)
     };
-    let sample = |place: u8| {
-        let bit = usize::from(place / 3);
+    let sample = |place: usize| {
+        let bit = place / 3;
         let own = if bit <= end.shape.first_stop() {
-            end.sampled(bit)[usize::from(place % 3)]
+            end.sampled(bit)[place % 3]
         } else {
             0
         };
-        (receiver.sample_clock(usize::from(place)), own)
+        (receiver.sample_clock(place), own)
     };
-    let pause = |_: u8| (timing.break_length, end.gear.break_length());
+    let pause = |_: usize| (timing.break_length, end.gear.break_length());
     first_odd(Time::BitLength, 14, length)
         .or_else(|| first_odd(Time::SampleClock, 37, sample))
         .or_else(|| first_odd(Time::BreakLength, 1, pause))
@@ -184,12 +183,4 @@ fn any_gear(dice: &mut Dice) -> Gear {
         let modulator = dice.byte();
         Gear::Usart { divider, modulator }
     }
-}
-
-pub(crate) fn compare_times(rt: &impl Print) -> io::Result<Tally> {
-    let mut tally = Tally::default();
-    for seed in 0..1200 {
-        tally.count(rt, &Timed::run(seed))?;
-    }
-    Ok(tally)
 }

@@ -4,6 +4,7 @@ use super::times::End;
 use line::{Level, Parity};
 use std::alloc::{AllocError, Global};
 
+// The flags are the library's numbers, written apart from it.
 pub(crate) const OVERRUN: u8 = 1;
 
 pub(crate) const PARITY: u8 = 2;

@@ -6,7 +6,7 @@ use super::inbox::Inbox;
 use super::levels::byte_of;
 use super::said::{Answer, Both, Said};
 use super::schedule::Schedule;
-use super::tally::{Case, Tally};
+use super::tally::{Case, Numbered};
 use super::times::Pair;
 use ends::{BareReceiver, BareSender, Receiver, Sender, Timing};
 use line::{Level, Refusal};
@@ -97,6 +97,7 @@ fn by_times(heap: Global, setup: &Setup, acts: &[Act]) -> Result<Vec<Answer>, Al
     let entries = heard(heap, &setup.pair.receiver, sending.levels.as_slice())?;
     let mut arrivals = entries.iter().peekable();
     let mut inbox = Inbox::new(heap, capacity(setup.receive_queues));
+    // two acts in five are receive clocks, so the place of an act is not its clock
     let mut clock = 0usize;
     for (act, answer) in acts.iter().zip(answers.iter_mut()) {
         match *act {
@@ -185,18 +186,16 @@ fn by_library(
     }
 }
 
-// The answers of both emulators, and the first place where they differ.
+// The answers of both emulators.
 #[derive(Drop)]
-struct Linked {
+pub(crate) struct Linked {
     seed: u16,
     setup: Setup,
     acts: Vec<Act>,
     answers: Both<Vec<Answer>>,
-    difference: Option<usize>,
 }
 
-impl Linked {
-    // None where the library refuses the settings of an end.
+impl Numbered for Linked {
     fn run(heap: Global, seed: u16) -> Result<Option<Linked>, AllocError> {
         let mut dice = Dice::new(u32::from(seed));
         let setup = Setup::random(&mut dice, seed);
@@ -208,20 +207,18 @@ impl Linked {
             own: by_times(heap, &setup, acts.as_slice())?,
             library: by_library(heap, &setup, from, to, acts.as_slice())?,
         };
-        let difference = answers.difference();
         Ok(Some(Linked {
             seed,
             setup,
             acts,
             answers,
-            difference,
         }))
     }
 }
 
 impl Case for Linked {
     fn is_same(&self) -> bool {
-        self.difference.is_none()
+        self.answers.difference().is_none()
     }
 }
 
@@ -239,7 +236,7 @@ fn write_act<W: fmt::Write>(f: &mut fmt::Formatter<W>, act: Act) -> fmt::Result 
 impl fmt::Display for Linked {
     fn fmt<W: fmt::Write>(&self, f: &mut fmt::Formatter<W>) -> fmt::Result {
         let seed = self.seed;
-        let place = self.difference.unwrap_or(0);
+        let place = self.answers.difference().unwrap_or(0);
         let Setup {
             pair,
             send_queues,
@@ -253,14 +250,4 @@ impl fmt::Display for Linked {
         writeln!(f, ", to act {place}, counted from 0:")?;
         write!(f, "{}", self.answers.at(place))
     }
-}
-
-pub(crate) fn compare(rt: &(impl Print + AllocGlobal)) -> anyhow::Result<Tally> {
-    let mut tally = Tally::default();
-    for seed in 0..2400 {
-        if let Some(case) = Linked::run(rt.alloc(), seed)? {
-            tally.count(rt, &case)?;
-        }
-    }
-    Ok(tally)
 }

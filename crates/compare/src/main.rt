@@ -24,6 +24,12 @@ mod times;
 mod transmit;
 
 use anyhow::ensure;
+use chips::Driven;
+use fits::Rated;
+use frames::Timed;
+use links::Linked;
+use pictures::Drawn;
+use scans::Scanned;
 use std::io;
 use std::process::ExitCode;
 use tally::Tally;
@@ -40,12 +46,20 @@ fn main(rt: HostRuntime) -> ExitCode {
 fn start(rt: &(impl Print + AllocGlobal)) -> anyhow::Result<()> {
     let same = [
         told(rt, "frames", frames::compare_frames(rt)?)?,
-        told(rt, "bit lengths and samples", frames::compare_times(rt)?)?,
-        told(rt, "pictures drawn", pictures::compare(rt)?)?,
-        told(rt, "pictures scanned", scans::compare(rt)?)?,
-        told(rt, "rates that fit or not", fits::compare(rt)?)?,
-        told(rt, "links", links::compare(rt)?)?,
-        told(rt, "chips", chips::compare(rt)?)?,
+        told(
+            rt,
+            "bit lengths and samples",
+            tally::compare::<Timed>(rt, 1200)?,
+        )?,
+        told(rt, "pictures drawn", tally::compare::<Drawn>(rt, 2400)?)?,
+        told(rt, "pictures scanned", tally::compare::<Scanned>(rt, 4800)?)?,
+        told(
+            rt,
+            "rates that fit or not",
+            tally::compare::<Rated>(rt, 1500)?,
+        )?,
+        told(rt, "links", tally::compare::<Linked>(rt, 2400)?)?,
+        told(rt, "chips", tally::compare::<Driven>(rt, 2400)?)?,
     ];
     ensure!(
         same == [true; 7],

@@ -3,9 +3,8 @@ use super::dice::Dice;
 use super::levels::byte_of;
 use super::said::Both;
 use super::shape::Shape;
-use super::tally::{Case, Tally};
-use super::times::End;
-use ends::Timing;
+use super::tally::{Case, Numbered};
+use super::times::{End, some_end};
 use line::Refusal;
 use picture::draw;
 use std::alloc::{AllocError, Global};
@@ -52,7 +51,7 @@ fn by_levels(end: &End, characters: &[u16], picture: &mut [u8]) -> Result<usize,
 
 // A picture in both emulators, with what each answers.
 #[derive(Drop)]
-struct Drawn {
+pub(crate) struct Drawn {
     seed: u16,
     end: End,
     characters: Vec<u16>,
@@ -60,12 +59,9 @@ struct Drawn {
     pictures: Both<Vec<u8>>,
 }
 
-impl Drawn {
-    // None where the library refuses the settings.
+impl Numbered for Drawn {
     fn run(heap: Global, seed: u16) -> Result<Option<Drawn>, AllocError> {
-        let mut dice = Dice::new(u32::from(seed));
-        let end = End::short(&mut dice, Shape::numbered(seed % 24));
-        let Ok(timing) = Timing::try_from(end) else {
+        let Ok((mut dice, end, timing)) = some_end(seed) else {
             return Ok(None);
         };
         let characters = some_characters(heap, end.shape, &mut dice, seed)?;
@@ -106,14 +102,4 @@ impl fmt::Display for Drawn {
         )?;
         write!(f, "{}{}", self.clocks, self.pictures)
     }
-}
-
-pub(crate) fn compare(rt: &(impl Print + AllocGlobal)) -> anyhow::Result<Tally> {
-    let mut tally = Tally::default();
-    for seed in 0..2400 {
-        if let Some(case) = Drawn::run(rt.alloc(), seed)? {
-            tally.count(rt, &case)?;
-        }
-    }
-    Ok(tally)
 }

@@ -2,7 +2,6 @@
 use super::address;
 use super::hearing::{BREAK, FRAMING, PARITY};
 use super::transmit::Received;
-use line::DataBits;
 
 const ERRORS: u8 = address::FE | address::PE | address::OE | address::BRK;
 
@@ -10,14 +9,11 @@ const ENABLES: u8 = address::URXEIE | address::URXWIE;
 
 // The bits in URCTL for an entry's flags.
 fn errors(flags: u8) -> u8 {
-    let bits = [
-        (FRAMING, address::FE),
-        (PARITY, address::PE),
-        (BREAK, address::BRK),
-    ];
-    bits.iter()
-        .filter(|(flag, _)| flags & *flag != 0)
-        .fold(0u8, |errors, (_, bit)| errors | *bit)
+    address::joined(&[
+        (address::FE, flags & FRAMING != 0),
+        (address::PE, flags & PARITY != 0),
+        (address::BRK, flags & BREAK != 0),
+    ])
 }
 
 #[derive(Clone, Copy)]
@@ -39,11 +35,7 @@ impl Receive {
 
     pub(crate) fn arrive(&mut self, received: Received) {
         let Received { shape, entry, .. } = received;
-        let values = match shape.data {
-            DataBits::Seven => 128,
-            DataBits::Eight => 256,
-        };
-        let addressed = entry.character >= values;
+        let addressed = entry.character >= shape.values();
         if shape.address && self.urctl & address::URXWIE != 0 && !addressed {
             return;
         }
@@ -52,7 +44,7 @@ impl Receive {
         if errors != 0 && self.urctl & address::URXEIE == 0 {
             return;
         }
-        self.urxbuf = (entry.character % values) as u8;
+        self.urxbuf = shape.cut(entry.character);
         if shape.address {
             self.urctl &= !address::RXWAKE;
             if addressed {

@@ -3,10 +3,8 @@ use super::dice::Dice;
 use super::hearing::{Arrival, heard};
 use super::levels::{byte_of, level_of};
 use super::said::Both;
-use super::shape::Shape;
-use super::tally::{Case, Tally};
-use super::times::End;
-use ends::Timing;
+use super::tally::{Case, Numbered};
+use super::times::{End, some_end};
 use line::{Level, Refusal};
 use picture::scan;
 use std::alloc::{AllocError, Global};
@@ -131,7 +129,7 @@ fn listed(
 
 // A list of entries in both emulators, with what each answers.
 #[derive(Drop)]
-struct Scanned {
+pub(crate) struct Scanned {
     seed: u16,
     end: End,
     picture: Vec<u8>,
@@ -139,12 +137,9 @@ struct Scanned {
     lists: Both<Vec<(u16, u8)>>,
 }
 
-impl Scanned {
-    // None where the library refuses the settings.
+impl Numbered for Scanned {
     fn run(heap: Global, seed: u16) -> Result<Option<Scanned>, AllocError> {
-        let mut dice = Dice::new(u32::from(seed));
-        let end = End::short(&mut dice, Shape::numbered(seed % 24));
-        let Ok(timing) = Timing::try_from(end) else {
+        let Ok((mut dice, end, timing)) = some_end(seed) else {
             return Ok(None);
         };
         let picture = some_picture(heap, &end, &mut dice)?;
@@ -179,14 +174,4 @@ impl fmt::Display for Scanned {
         writeln!(f, "seed {seed}, {}, picture {:?}", self.end, self.picture)?;
         write!(f, "{}{}", self.counts, self.lists)
     }
-}
-
-pub(crate) fn compare(rt: &(impl Print + AllocGlobal)) -> anyhow::Result<Tally> {
-    let mut tally = Tally::default();
-    for seed in 0..4800 {
-        if let Some(case) = Scanned::run(rt.alloc(), seed)? {
-            tally.count(rt, &case)?;
-        }
-    }
-    Ok(tally)
 }

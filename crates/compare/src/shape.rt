@@ -61,6 +61,19 @@ impl Shape {
         }
     }
 
+    // How many values the data bits have.
+    pub(crate) fn values(self) -> u16 {
+        1u16 << (self.data_bits() % 16)
+    }
+
+    // What a character has in its data bits.
+    pub(crate) fn cut(self, character: u16) -> u8 {
+        match self.data {
+            DataBits::Seven => (character % 128) as u8,
+            DataBits::Eight => (character % 256) as u8,
+        }
+    }
+
     pub(crate) fn stop_bits(self) -> u8 {
         match self.stops {
             StopBits::One => 1,
@@ -119,6 +132,7 @@ impl Shape {
     }
 }
 
+// Through numbers, so that what the library makes of those is compared as well.
 impl TryFrom<Shape> for Format {
     type Error = Refusal;
 

@@ -1,9 +1,16 @@
 // How many cases were compared, and how many of them differed.
+use std::alloc::{AllocError, Global};
 use std::{fmt, io};
 
 // What both emulators made of a case. It is printed where it is the first that differs.
 pub(crate) trait Case: fmt::Display {
     fn is_same(&self) -> bool;
+}
+
+// A case that its number makes.
+pub(crate) trait Numbered: Case + Sized {
+    // None where there is nothing to compare: the library refuses the settings.
+    fn run(heap: Global, seed: u16) -> Result<Option<Self>, AllocError>;
 }
 
 #[derive(Clone, Copy, Default)]
@@ -32,4 +39,18 @@ impl fmt::Display for Tally {
         let differences = self.differences;
         write!(f, "{cases:>6} cases, {differences} differences")
     }
+}
+
+// Runs so many cases in both emulators.
+pub(crate) fn compare<C: Numbered + Drop>(
+    rt: &(impl Print + AllocGlobal),
+    cases: u16,
+) -> anyhow::Result<Tally> {
+    let mut tally = Tally::default();
+    for seed in 0..cases {
+        if let Some(case) = C::run(rt.alloc(), seed)? {
+            tally.count(rt, &case)?;
+        }
+    }
+    Ok(tally)
 }

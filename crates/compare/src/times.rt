@@ -136,6 +136,14 @@ impl TryFrom<End> for Timing {
     }
 }
 
+// The dice of a case and the end that they make, for each format in turn, with the library's times for it.
+pub(crate) fn some_end(seed: u16) -> Result<(Dice, End, Timing), Refusal> {
+    let mut dice = Dice::new(u32::from(seed));
+    let end = End::short(&mut dice, Shape::numbered(seed % 24));
+    let timing = Timing::try_from(end)?;
+    Ok((dice, end, timing))
+}
+
 // The two ends of a line.
 #[derive(Clone, Copy)]
 pub(crate) struct Pair {

@@ -162,11 +162,8 @@ impl Transmit {
     // The byte as the format cuts it, and the character that is sent.
     fn cut(&self, shape: Shape, value: u8) -> (u8, u16) {
         let wakes = shape.address && self.utctl & address::TXWAKE != 0;
-        let (byte, bit) = match shape.data {
-            DataBits::Seven => (value % 128, 128),
-            DataBits::Eight => (value, 256),
-        };
-        let above = if wakes { bit } else { 0 };
+        let byte = shape.cut(u16::from(value));
+        let above = if wakes { shape.values() } else { 0 };
         (byte, u16::from(byte) | above)
     }
 
