@@ -64,10 +64,7 @@ fn print_verdict(rt: &impl Print, way: Way) -> anyhow::Result<()> {
     Ok(())
 }
 
-pub(crate) fn command(
-    rt: &(impl Print + AllocGlobal),
-    words: &[String],
-) -> anyhow::Result<()> {
+pub(crate) fn command(rt: &(impl Print + AllocGlobal), words: &[String]) -> anyhow::Result<()> {
     let words = Words::parse(rt.alloc(), TAKES, words)?;
     let way = way_named(rt.alloc(), &words)?;
     print_verdict(rt, way)
