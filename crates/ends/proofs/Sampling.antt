@@ -242,11 +242,30 @@ in_step t s u n l before is =
     one : (n : ℕ) → suc n ≡ n + 1
     one n = omega arith
 
-pub not_past : (t : Timing) (s : Samples) (n : ℕ) → s.count ≡ falling_before n (sample_clocks t) → s.count ≤ t.sample_count
+pub not_past : (t : Timing) (s : Samples) (n : ℕ) → s.count ≡ falling_before n (sample_clocks t) → s.count ≤ samples_per_frame t.format
 not_past t s n e = omega (arith, e, before_most n (sample_clocks t), clocks_length t)
 
+-- while one is to come, the table has no later sample on the frame's clock than those that the frame uses
+pub used_on_clock : (t : Timing) (n k : ℕ) → falling_before n (sample_clocks t) < samples_per_frame t.format → k < 36 → slice_index t.samples k ≡ n
+    → k < samples_per_frame t.format
+used_on_clock t n k left within on = ⊎_elim
+    (λ (l : k < samples_per_frame t.format). l)
+    (λ (g : samples_per_frame t.format ≤ k).
+    let stop : ℕ = first_stop t.format in
+    let last : 3 * stop + 2 < samples_per_frame t.format = omega arith in
+    let up : Rising t.samples = rising_all t.samples (λ i h. t.rising i (omega (arith, h, t.all_samples))) in
+    absurd (omega (
+      arith,
+      over_clock n (sample_clocks t) (clocks_rising t) (3 * stop + 2) (omega (arith, last, clocks_length t)) (omega (arith, left)),
+      clock_at t (3 * stop + 2) last,
+      t.apart stop (omega (arith, g, within)),
+      up (3 * stop + 3) k (omega (arith, g)) (omega (arith, within, t.all_samples)),
+      on,
+    )))
+    (cases_lt k (samples_per_frame t.format))
+
 -- a frame's clock is before the last sample's while one is to come
-pub clock_early : (t : Timing) (s : Samples) (n : ℕ) → s.count ≡ falling_before n (sample_clocks t) → s.count < t.sample_count → n < 1048576
+pub clock_early : (t : Timing) (s : Samples) (n : ℕ) → s.count ≡ falling_before n (sample_clocks t) → s.count < samples_per_frame t.format → n < 1048576
 clock_early t s n e h =
     omega (arith, over_clock n (sample_clocks t) (clocks_rising t) s.count (omega (arith, h, clocks_length t)) (omega (arith, e)), clock_at t s.count h, t.early s.count)
 
@@ -254,7 +273,7 @@ clock_early t s n e h =
 pub few_at_first : (t : Timing) → falling_before 1 (sample_clocks t) ≤ 3
 few_at_first t = ⊎_elim
     (λ (more : 3 < falling_before 1 (sample_clocks t)).
-    let within : 3 < t.sample_count = omega (arith, t.counted) in
+    let within : 3 < samples_per_frame t.format = omega arith in
     absurd (omega (arith, under_clock 1 (sample_clocks t) (clocks_rising t) 3 more, clock_at t 3 within, t.apart 0 (omega arith))))
     (λ (few : falling_before 1 (sample_clocks t) ≤ 3). few)
     (cases_lt 3 (falling_before 1 (sample_clocks t)))

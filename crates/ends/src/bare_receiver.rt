@@ -1,5 +1,7 @@
 // A receiver that runs on a table of times, with room for one entry.
-ghost use Rattle.std.specs.Prelude.{◌≡◌, ◌<◌, take};
+ghost use Rattle.std.specs.Prelude.{◌≡◌, ◌<◌};
+ghost use Rattle.ends.specs.Times.{samples_per_frame};
+ghost use Rattle.ends.specs.Timed.{sample_clocks};
 ghost use Rattle.ends.specs.Samples.{taken_by, due_by, spaces_by};
 
 use super::doing::Doing;
@@ -12,7 +14,7 @@ pub struct BareReceiver {
     pub(crate) unread: Option<(u16, u8)>,
     pub(crate) previous: Level,
     pub(crate) doing: Doing,
-    ghost in_step: { taken_by doing ≡ due_by (take timing.sample_count timing.samples) doing },
-    ghost unended: { taken_by doing < timing.sample_count },
+    ghost in_step: { taken_by doing ≡ due_by (sample_clocks timing) doing },
+    ghost unended: { taken_by doing < samples_per_frame timing.format },
     ghost unbroken: { spaces_by doing < timing.break_length },
 }

@@ -1,9 +1,10 @@
 // How the bare receiver receives.
-ghost use Rattle.std.specs.Prelude.{◌≡◌, ℕ, ◌+◌, ◌*◌, ◌^◌, ◌<◌, ◌≤◌, [], ◌∷◌, ◌++◌, length, replicate, slice_index_or, if◌then◌else◌, slice_get};
+ghost use Rattle.std.specs.Prelude.{◌≡◌, ℕ, false, ◌+◌, ◌*◌, ◌^◌, ◌<◌, ◌≤◌, [], ◌∷◌, ◌++◌, length, replicate, slice_index_or, if◌then◌else◌, slice_get};
 ghost use Rattle.std.specs.Option.{option_to_list};
 ghost use Rattle.line.specs.declared.level.Level.TheVariants.{Space, Mark};
 ghost use Rattle.line.specs.Levels.{number, low_bits};
 ghost use Rattle.line.specs.Frames.{first_stop};
+ghost use Rattle.ends.specs.Times.{samples_per_frame};
 ghost use Rattle.ends.specs.Receiver.{falling_on, falling_before, majority, decided, entry_of, joined, heard_in_frame, nothing, idle, framing, going_on, taken_now};
 ghost use Rattle.ends.specs.Samples.{taken};
 ghost use Rattle.ends.specs.BareReceiver.{meant, at_rest, heard_of};
@@ -27,11 +28,25 @@ pub const FRAMING: u8 = 4;
 pub const BREAK: u8 = 8;
 
 impl Timing {
+    // How many samples are taken of a frame: three for each bit through the first stop bit.
+    pub fn sample_count(&self) -> usize
+        ensures { result ≡ samples_per_frame self.now.format }
+    {
+        3 * (1 + self.format.first_stop())
+    }
+
+    // The clock that the table has for this sample, whether or not the format uses it.
+    fn in_table(&self, sample: usize) -> Option<u32>
+        ensures { result ≡ slice_get self.now.samples sample }
+    {
+        self.samples.get(sample).copied()
+    }
+
     // The clock of this sample, if a frame has so many.
     fn sample(&self, sample: usize) -> Option<u32>
         ensures { result ≡ slice_get (sample_clocks self.now) sample }
     {
-        self.samples[..self.sample_count].get(sample).copied()
+        self.samples[..self.sample_count()].get(sample).copied()
     }
 }
 
@@ -54,14 +69,20 @@ impl Samples {
         self.count += 1;
     }
 
-    // Takes the level down for each sample that falls on this clock of the frame.
-    fn take_down(&mut self, timing: &Timing, clock: u32, level: Level)
-        requires { self.old.count ≡ falling_before clock (sample_clocks timing.now) }
-        ensures { taken self.new ≡ taken_now (sample_clocks timing.now) clock (taken self.old) level }
+    // Takes the level down for each sample that falls on this clock of the frame, and answers whether one does. The table's samples
+    // past the frame's last fall on later clocks.
+    fn take_down(&mut self, timing: &Timing, clock: u32, level: Level) -> bool
+        requires in_step { self.old.count ≡ falling_before clock (sample_clocks timing.now) }
+        requires unended { self.old.count < samples_per_frame timing.now.format }
+        ensures taken { taken self.new ≡ taken_now (sample_clocks timing.now) clock (taken self.old) level }
+        ensures none { result ≡ false → self.new.count ≡ self.old.count }
     {
-        while timing.sample(self.count) == Some(clock) {
+        let mut some = false;
+        while timing.in_table(self.count) == Some(clock) {
             self.push(level);
+            some = true;
         }
+        some
     }
 
     // The level that two of the bit's three samples have.
@@ -105,7 +126,7 @@ impl Samples {
         ensures taken { taken result ≡ taken_now (sample_clocks timing.now) 0 [] Space }
         ensures heard { heard_in_frame timing.now.format 0 (taken result) ≡ nothing (framing 0 (taken result)) }
         ensures in_step { result.count ≡ falling_before 1 (sample_clocks timing.now) }
-        ensures unended { result.count < timing.now.sample_count }
+        ensures unended { result.count < samples_per_frame timing.now.format }
     {
         let mut samples = Samples::none();
         samples.take_down(timing, 0, Level::Space);
@@ -116,14 +137,14 @@ impl Samples {
     #[inline(always)]
     fn clock(&mut self, timing: &Timing, clock: u32, level: Level) -> Progress
         requires in_step { self.old.count ≡ falling_before clock (sample_clocks timing.now) }
-        requires unended { self.old.count < timing.now.sample_count }
+        requires unended { self.old.count < samples_per_frame timing.now.format }
         ensures taken { taken self.new ≡ taken_now (sample_clocks timing.now) clock (taken self.old) level }
         ensures heard { heard_of result clock (taken self.new) ≡ heard_in_frame timing.now.format clock (taken self.new) }
         ensures in_step { self.new.count ≡ falling_before (clock + 1) (sample_clocks timing.now) }
-        ensures unended { result ≡ Progress.GoesOn → self.new.count < timing.now.sample_count }
+        ensures unended { result ≡ Progress.GoesOn → self.new.count < samples_per_frame timing.now.format }
     {
-        self.take_down(timing, clock, level);
-        if self.count == timing.sample_count {
+        // how many samples a frame has is asked at the few clocks alone that take one down
+        if self.take_down(timing, clock, level) && self.count == timing.sample_count() {
             let digits = self.digits(timing.format.first_stop() + 1);
             return Progress::Over(entry(timing.format, digits));
         }

@@ -1,6 +1,5 @@
 // When an end sends and samples each bit, counted in its own clocks.
 ghost use Rattle.std.specs.Prelude.{◌≡◌, ℕ, ◌+◌, ◌*◌, ◌^◌, ◌<◌, ◌≤◌, length, slice_index};
-ghost use Rattle.line.specs.Frames.{first_stop};
 
 use line::Format;
 
@@ -13,8 +12,6 @@ pub struct Timing {
     pub lengths: [u32; 13],
     // the three clocks at which each bit is sampled, counted from the frame's first clock, one bit after the other
     pub samples: [u32; 36],
-    // how many samples are taken of a frame: three for each bit through the first stop bit; public, and part of what a kind of end builds
-    pub sample_count: usize,
     // how many spaces after a framing fault make a break
     pub break_length: u32,
     ghost thirteen: { length lengths ≡ 13 },
@@ -24,7 +21,6 @@ pub struct Timing {
     ghost rising: { (i : ℕ) → i + 1 < 36 → slice_index samples i ≤ slice_index samples (i + 1) },
     ghost apart: { (k : ℕ) → k < 11 → slice_index samples (3 * k + 2) < slice_index samples (3 * k + 3) },
     ghost early: { (i : ℕ) → slice_index samples i < 1048576 },
-    ghost counted: { sample_count ≡ 3 * (1 + first_stop format) },
     ghost breaks: { 0 < break_length },
     ghost brief: { break_length < 2 ^ 32 },
 }

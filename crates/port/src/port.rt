@@ -31,7 +31,6 @@ impl Kind for Port {
             format,
             lengths: [16 * divider; 13],
             samples: sample_table(divider),
-            sample_count: 3 * (1 + format.first_stop()),
             break_length: 160 * divider,
         })
     }

@@ -25,12 +25,14 @@ short (n ∷ ns) a zero = a.0.1
 short (n ∷ ns) a (suc k) = short ns a.1 k
 
 -- what is used of the table is sampled as the whole is
-pub inside_used : (ns clocks : List ℕ) (last n : ℕ) → 3 * (1 + last) ≡ n → Inside ns clocks last → Inside ns (take n clocks) last
-inside_used ns clocks last n size within k h =
+pub inside_used : (ns clocks : List ℕ) (last : ℕ) → Inside ns clocks last → Inside ns (take (3 * (1 + last)) clocks) last
+inside_used ns clocks last within k h =
+    let n : ℕ = 3 * (1 + last) in
     (omega (arith, (within k h).0, get_or-take n clocks (3 * k) 0 (omega arith)), omega (arith, (within k h).1, get_or-take n clocks (3 * k + 2) 0 (omega arith)))
 
-pub centred_used : (ns clocks : List ℕ) (last n : ℕ) → 3 * (1 + last) ≡ n → Centred ns clocks last → Centred ns (take n clocks) last
-centred_used ns clocks last n size even k h =
+pub centred_used : (ns clocks : List ℕ) (last : ℕ) → Centred ns clocks last → Centred ns (take (3 * (1 + last)) clocks) last
+centred_used ns clocks last even k h =
+    let n : ℕ = 3 * (1 + last) in
     let a = get_or-take n clocks (3 * k) 0 (omega arith) in
     let b = get_or-take n clocks (3 * k + 1) 0 (omega arith) in
     let c = get_or-take n clocks (3 * k + 2) 0 (omega arith) in

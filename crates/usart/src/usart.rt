@@ -28,7 +28,6 @@ impl Kind for Usart {
             format,
             lengths,
             samples: sample_clocks(&lengths[..12]),
-            sample_count: 3 * (1 + format.first_stop()),
             break_length: 10 * u32::from(settings.divider),
         })
     }

@@ -1,7 +1,7 @@
 -- One more bit is sampled after those before it.
-use Rattle.std.proofs.Common.{◌≡◌, ◌*◌, ◌≤◌, length, get_or, sym, ap, ◌∙◌, arith, rules}
+use Rattle.std.proofs.Common.{get_or, ap, ◌∙◌, arith, rules}
 use Rattle.std.proofs.lemmas.List.{places}
-use Rattle.usart.specs.Usart.{samples, bit_samples}
+use Rattle.usart.specs.Usart.{bit_samples}
 use Rattle.usart.proofs.Samples.{start_more, samples_more}
 use Rattle.usart.proofs.usart.sample_clocks.Goals as goal
 

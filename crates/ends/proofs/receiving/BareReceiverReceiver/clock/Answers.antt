@@ -3,6 +3,7 @@ use Rattle.std.proofs.Common.{◌≡◌, ℕ, ◌+◌, ◌^◌, ◌<◌, subst, 
 use Rattle.ends.specs.declared.doing.Doing.{Doing}
 use Rattle.ends.specs.declared.doing.Doing.TheVariants.{Framing}
 use Rattle.ends.specs.Samples.{taken_by, due_by}
+use Rattle.ends.specs.Times.{samples_per_frame}
 use Rattle.ends.specs.Timed.{sample_clocks}
 use Rattle.ends.proofs.Sampling.{clock_early}
 use Rattle.ends.proofs.receiving.BareReceiverReceiver.clock.Goals as goal
@@ -20,5 +21,5 @@ overflow_add-clock c =
       arith,
       clock_early r.timing s (n + 1)
           (subst (λ (d : Doing). taken_by d ≡ due_by (sample_clocks r.timing) d) e r.in_step)
-          (subst (λ (d : Doing). taken_by d < r.timing.sample_count) e r.unended),
+          (subst (λ (d : Doing). taken_by d < samples_per_frame r.timing.format) e r.unended),
     ))

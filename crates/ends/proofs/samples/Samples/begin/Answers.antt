@@ -9,8 +9,8 @@ use Rattle.ends.proofs.Sampling.{before_zero, before_more, few_at_first, in_step
 use Rattle.ends.proofs.InFrame.{starts}
 use Rattle.ends.proofs.samples.Samples.begin.Goals as goal
 
-pub take_down-requires : goal.take_down-requires
-take_down-requires c = c.none-samples.ensures ∙ sym (before_zero (sample_clocks c.args.timing.now))
+pub take_down-requires-clause-in_step : goal.take_down-requires-clause-in_step
+take_down-requires-clause-in_step c = c.none-samples.ensures ∙ sym (before_zero (sample_clocks c.args.timing.now))
 
 pub returns : goal.returns
 returns c =
@@ -18,12 +18,12 @@ returns c =
     let s = c.none-samples.result in
     let u = c.take_down.new.self in
     let none : taken s ≡ [] = ap (λ n. take n s.levels) c.none-samples.ensures in
-    let is : taken u ≡ taken_now (sample_clocks t) 0 [] Space = c.take_down.ensures ∙ ap (λ (l : List Level). taken_now (sample_clocks t) 0 l Space) none in
-    let step = in_step t s u 0 Space (c.none-samples.ensures ∙ sym (before_zero (sample_clocks t))) c.take_down.ensures in
+    let is : taken u ≡ taken_now (sample_clocks t) 0 [] Space = c.take_down.ensures.taken ∙ ap (λ (l : List Level). taken_now (sample_clocks t) 0 l Space) none in
+    let step = in_step t s u 0 Space (c.none-samples.ensures ∙ sym (before_zero (sample_clocks t))) c.take_down.ensures.taken in
     let few : falling_on 0 (sample_clocks t) ≤ 3 = omega (arith, few_at_first t, before_more 0 (sample_clocks t)) in
     record {
       taken = is;
       heard = ap (λ (l : List Level). heard_in_frame t.format 0 l) is ∙ starts t.format (falling_on 0 (sample_clocks t)) few ∙ ap (λ (l : List Level). nothing (framing 0 l)) (sym is);
       in_step = step;
-      unended = omega (arith, step, few_at_first t, t.counted);
+      unended = omega (arith, step, few_at_first t);
     }

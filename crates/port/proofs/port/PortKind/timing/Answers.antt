@@ -1,5 +1,5 @@
 -- The two tables are those of the specification, and keep what a `Timing` asks of them.
-use Rattle.std.proofs.Common.{◌≡◌, ◌+◌, ◌*◌, arith, rules}
+use Rattle.std.proofs.Common.{◌≡◌, refl, ◌+◌, ◌*◌, arith, rules}
 use Rattle.line.specs.Frames.{first_stop}
 use Rattle.line.proofs.Bits.{stop_most}
 use Rattle.port.proofs.Table.{timed_plain, frame_samples, spaced, inside, tables}
@@ -14,11 +14,10 @@ pub returns : goal.returns
 returns c =
     let f = c.args.format in
     let last = stop_most f in
-    let size : 3 * (1 + first_stop f) ≡ 3 * (1 + c.first_stop.result) = omega (arith, c.first_stop.ensures) in
-    let used = frame_samples _ (3 * (1 + c.first_stop.result)) _ c.sample_table.ensures (omega arith) in
+    let used = frame_samples _ (3 * (1 + first_stop f)) _ c.sample_table.ensures (omega arith) in
     let same : c.from-divider.result ≡ c.args.settings.divider = omega arith in
     record {
       times = cc (timed_plain f c.args.settings.divider (cc));
-      inside = inside _ _ _ used (omega arith) (first_stop f) last size;
-      spaced = rw (← same) (spaced _ _ _ used (first_stop f) last size);
+      inside = inside _ _ _ used (omega arith) (first_stop f) last refl;
+      spaced = rw (← same) (spaced _ _ _ used (first_stop f) last refl);
     }

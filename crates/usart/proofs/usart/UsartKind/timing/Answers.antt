@@ -1,5 +1,5 @@
 -- The two tables are those of the specification, and keep what a `Timing` asks of them.
-use Rattle.std.proofs.Common.{◌≡◌, ◌+◌, ◌*◌, arith, rules}
+use Rattle.std.proofs.Common.{◌+◌, arith, rules}
 use Rattle.line.specs.Frames.{first_stop}
 use Rattle.line.proofs.Bits.{stop_most}
 use Rattle.std.proofs.lemmas.List.{get_or-take}
@@ -25,9 +25,8 @@ returns c =
     let s = c.args.settings in
     let f = c.args.format in
     let t = sampled s.divider s.modulator _ _ c.bit_lengths-lengths.ensures c.sample_clocks.ensures s.least (omega arith) in
-    let size : 3 * (1 + first_stop f) ≡ 3 * (1 + c.first_stop.result) = omega (arith, c.first_stop.ensures) in
     record {
       times = cc (frame_samples s.divider s.modulator (1 + first_stop f) (omega (arith, stop_most f)));
-      inside = inside_used _ _ (first_stop f) _ size (t.inside f);
-      centred = centred_used _ _ (first_stop f) _ size (t.centred f);
+      inside = inside_used _ _ (first_stop f) (t.inside f);
+      centred = centred_used _ _ (first_stop f) (t.centred f);
     }
