@@ -104,7 +104,8 @@ impl Samples {
         ensures value { result ≡ number (decided (taken self.now)) }
         ensures bound { result < 2 ^ bits }
     {
-        // by number: a false start asks for a bit by its number too
+        // A loop: of a `fold` over the numbers the check left what its closure asks at each turn, that twice the digits and one more
+        // fit, and the sum itself.
         let mut digits = 0;
         for k in (0..bits).rev() {
             digits = 2 * digits + u16::from(u8::from(self.bit(k)));
@@ -186,10 +187,7 @@ fn arrived(unread: Option<(u16, u8)>, entry: (u16, u8)) -> (u16, u8)
     ensures { result ∷ [] ≡ joined 1 (option_to_list unread) entry }
 {
     let (character, flags) = entry;
-    match unread {
-        None => entry,
-        Some((_, lost)) => (character, flags | lost | OVERRUN),
-    }
+    unread.map_or(entry, |(_, lost)| (character, flags | lost | OVERRUN))
 }
 
 impl BareReceiver {
