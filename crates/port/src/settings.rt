@@ -13,6 +13,7 @@ pub struct Settings {
 }
 
 impl Settings {
+    // It is no `TryFrom`: callers of both kinds of end make their settings by `new`, and a number says nothing of being a divider.
     pub fn new(divider: u16) -> Result<Settings, Refusal>
         ensures { MatchResult result (λ s. InRange divider × (s.divider ≡ divider)) (λ e. (InRange divider → ⊥) × (e ≡ OutOfRange)) }
     {

@@ -14,6 +14,7 @@ pub struct Settings {
 }
 
 impl Settings {
+    // It is no `TryFrom`: two plain numbers would have to come as a pair, and a call would no longer say which is which.
     pub fn new(divider: u16, modulator: u8) -> Result<Settings, Refusal>
         ensures { MatchResult result (λ s. (3 ≤ divider) × (s.divider ≡ divider) × (s.modulator ≡ modulator)) (λ e. (divider < 3) × (e ≡ OutOfRange)) }
     {
