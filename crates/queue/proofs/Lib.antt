@@ -1,4 +1,3 @@
 -- The lemmas that several proofs share.
 pub mod Receiving
 pub mod Rings
-pub mod Sending

@@ -1,32 +1,11 @@
 -- A receiver with a queue behind it, by what the receiver below does.
-use Rattle.std.proofs.Common.{◌≡◌, ℕ, pred, ◌+◌, ◌-◌, ◌<◌, ◌≤◌, cond, List, [], ◌∷◌, ◌++◌, length, Ok, sym, refl, ap, ◌∙◌, subst, ⊎_elim, arith}
+use Rattle.std.proofs.Common.{◌≡◌, ℕ, pred, ◌+◌, ◌-◌, ◌<◌, ◌≤◌, cond, List, [], ◌∷◌, ◌++◌, length, sym, refl, ap, ◌∙◌, subst, ⊎_elim, arith}
 use lib.Bits.{bit_or}
-use Rattle.std.proofs.lemmas.List.{append_assoc}
 use Rattle.std.proofs.lemmas.Bool.{cases_lt, lt-leb}
 use Rattle.line.specs.declared.level.Level.{Level}
 use Rattle.line.specs.declared.level.Level.TheVariants.{Space, Mark}
-use Rattle.ends.specs.Receiver.{ReceiverState, Entry, Doing, idle, framing, counting, Heard, heard, hears, joined, arrive, with, after_clock, oldest, without_oldest, after_read}
+use Rattle.ends.specs.Receiver.{ReceiverState, Entry, Doing, idle, framing, counting, Heard, heard, hears, joined, arrive, with, after_clock}
 use Rattle.queue.specs.Queues.{queued_from}
-
--- an entry that is read below moves up
-pub taken_over : (r t : ReceiverState) (held more : List Entry) (e : Entry) → Ok e ≡ oldest r.unread → t ≡ after_read r → more ≡ held ++ e ∷ []
-    → queued_from t more ≡ queued_from r held
-taken_over r t held more e first state is =
-    ap {B = ReceiverState} (λ x. queued_from x more) state
-    ∙ ap {B = ReceiverState} (λ us. record {
-      format = r.format;
-      samples = r.samples;
-      break_length = r.break_length;
-      capacity = r.capacity + 16;
-      unread = us;
-      previous = r.previous;
-      doing = r.doing;
-    })
-    (ap (λ (x : List Entry). x ++ without_oldest r.unread) is ∙ append_assoc held (e ∷ []) (without_oldest r.unread) ∙ ap {B = List Entry} (λ x. held ++ x) (go r.unread first))
-  where
-    go : (us : List Entry) → Ok e ≡ oldest us → e ∷ without_oldest us ≡ us
-    go [] h = cc
-    go (u ∷ us) h = let z : e ≡ u = cc in ap {B = List Entry} (λ x. x ∷ us) z
 
 -- an entry passes those held, where there is room after them
 past_held : (held us : List Entry) (room : ℕ) (e : Entry) → 0 < room → joined (room + length held) (held ++ us) e ≡ held ++ joined room us e
