@@ -48,6 +48,7 @@ impl<T: Copy> Ring<T> {
     pub(crate) fn front(&self) -> Option<T>
         ensures { MatchOption result (self.now ≡ []) (λ item. self.now ≡ item ∷ drop 1 self.now) }
     {
+        // A guard: with `(self.count > 0).then(..)` the index is the closure's, and what the answer is (`returns`) was left to prove.
         if self.count == 0 {
             return None;
         }
