@@ -1,5 +1,5 @@
 -- The entry of a frame, by the digits of its bits.
-use Rattle.std.proofs.Common.{◌≡◌, ℕ, zero, suc, ◌+◌, ◌-◌, ◌*◌, ◌/◌, ◌%◌, ◌^◌, ◌<◌, Bool, true, cond, eqb, List, [], ◌∷◌, ◌++◌, length, take, drop, sym, refl, ap, ◌∙◌, ap₂, le_of_suc-le-suc, not-suc-le-zero, mod-eq_of_lt, arith, take_at, drop_at}
+use Rattle.std.proofs.Common.{◌≡◌, ℕ, zero, suc, ◌+◌, ◌-◌, ◌*◌, ◌/◌, ◌%◌, ◌^◌, ◌<◌, Bool, true, if◌then◌else◌, ◌==◌, List, [], ◌∷◌, ◌++◌, length, take, drop, sym, refl, ap, ◌∙◌, ap₂, le_of_suc-le-suc, not-suc-le-zero, mod-eq_of_lt, arith, take_at, drop_at}
 use Rattle.std.proofs.lemmas.Nat.{shr-shr}
 use Rattle.std.proofs.lemmas.Bool.Decides.{nat_tests}
 use Rattle.line.specs.declared.level.Level.{Level}
@@ -12,22 +12,22 @@ use Rattle.line.proofs.Bits.{parity_length, through, through_front, front, front
 use Rattle.ends.specs.Receiver.{Entry, entry_of, same_levels, framing_flag}
 
 -- two lists of one length are the same levels where they are the same number
-same_number : (xs ys : List Level) → length xs ≡ length ys → same_levels xs ys ≡ eqb (number xs) (number ys)
+same_number : (xs ys : List Level) → length xs ≡ length ys → same_levels xs ys ≡ (number xs == number ys)
 same_number [] [] e = refl
 same_number [] (y ∷ ys) e = absurd (omega arith)
 same_number (x ∷ xs) [] e = absurd (omega arith)
-same_number (Space ∷ xs) (Space ∷ ys) e = let h : same_levels xs ys ≡ eqb (number xs) (number ys) = same_number xs ys (omega arith) in h ∙ doubled (number xs) (number ys)
+same_number (Space ∷ xs) (Space ∷ ys) e = let h : same_levels xs ys ≡ (number xs == number ys) = same_number xs ys (omega arith) in h ∙ doubled (number xs) (number ys)
   where
-    doubled : (m n : ℕ) → eqb m n ≡ eqb (2 * m) (2 * n)
+    doubled : (m n : ℕ) → (m == n) ≡ (2 * m == 2 * n)
     doubled m n = grind (arith, nat_tests)
-same_number (Mark ∷ xs) (Mark ∷ ys) e = let h : same_levels xs ys ≡ eqb (number xs) (number ys) = same_number xs ys (omega arith) in h ∙ doubled (number xs) (number ys)
+same_number (Mark ∷ xs) (Mark ∷ ys) e = let h : same_levels xs ys ≡ (number xs == number ys) = same_number xs ys (omega arith) in h ∙ doubled (number xs) (number ys)
   where
-    doubled : (m n : ℕ) → eqb m n ≡ eqb (1 + 2 * m) (1 + 2 * n)
+    doubled : (m n : ℕ) → (m == n) ≡ (1 + 2 * m == 1 + 2 * n)
     doubled m n = grind (arith, nat_tests)
 same_number (Space ∷ xs) (Mark ∷ ys) e = let m : ℕ = number xs in let n : ℕ = number ys in grind (arith, nat_tests)
 same_number (Mark ∷ xs) (Space ∷ ys) e = let m : ℕ = number xs in let n : ℕ = number ys in grind (arith, nat_tests)
 
-stop_flag : (x : ℕ) → x < 2 → framing_flag (level_of x ∷ []) ≡ cond (eqb x 1) 0 4
+stop_flag : (x : ℕ) → x < 2 → framing_flag (level_of x ∷ []) ≡ (if x == 1 then 0 else 4)
 stop_flag zero h = refl
 stop_flag (suc zero) h = refl
 stop_flag (suc (suc x)) h = absurd (not-suc-le-zero (le_of_suc-le-suc (le_of_suc-le-suc h)))
@@ -64,22 +64,22 @@ module _ (f : Format) (d : ℕ) where
       ∙ ap {B = List Level} (λ c. level_of (c % 2) ∷ []) (sym (ap (λ (x : ℕ). x / 2 ^ p) (shr-shr d 1 w) ∙ shr-shr d (1 + w) p))
 
   abbrev made : List Level → List Level → List Level → Entry
-  made b k r = (number b, cond (same_levels k (parity_bits f.parity b)) 0 2 + framing_flag r)
+  made b k r = (number b, (if same_levels k (parity_bits f.parity b) then 0 else 2) + framing_flag r)
 
   abbrev flagged : ℕ → Bool → ℕ → Entry
-  flagged c same framing = (c, cond same 0 2 + framing)
+  flagged c same framing = (c, (if same then 0 else 2) + framing)
 
   pub entry_digits : entry_of f (low_bits (1 + first_stop f) d)
-      ≡ (d / 2 % 2 ^ w, cond (eqb (above % 2 ^ p) (number (parity_bits f.parity (low_bits w (d / 2))))) 0 2 + cond (eqb (above / 2 ^ p % 2) 1) 0 4)
+      ≡ (d / 2 % 2 ^ w, (if above % 2 ^ p == number (parity_bits f.parity (low_bits w (d / 2))) then 0 else 2) + (if above / 2 ^ p % 2 == 1 then 0 else 4))
   entry_digits =
       let bits : List Level = low_bits (1 + first_stop f) d in
       let ps : List Level = parity_bits f.parity (low_bits w (d / 2)) in
-      let same : same_levels (low_bits p above) ps ≡ eqb (above % 2 ^ p) (number ps) =
-      same_number (low_bits p above) ps (low_length p above ∙ sym (parity_length f.parity (low_bits w (d / 2)))) ∙ ap (λ (n : ℕ). eqb n (number ps)) (number_low p above) in
+      let same : same_levels (low_bits p above) ps ≡ (above % 2 ^ p == number ps) =
+      same_number (low_bits p above) ps (low_length p above ∙ sym (parity_length f.parity (low_bits w (d / 2)))) ∙ ap (λ (n : ℕ). n == number ps) (number_low p above) in
       ap (λ (b : List Level). made b (take (first_stop f - (1 + w)) (drop (1 + w) bits)) (drop (first_stop f) bits)) body
       ∙ ap₂ (λ (k r : List Level). made (low_bits w (d / 2)) k r) check stop
       ∙ ap₂ (λ (c : ℕ) (b : Bool). flagged c b (framing_flag (level_of (above / 2 ^ p % 2) ∷ []))) (number_low w (d / 2)) same
-      ∙ ap (λ (n : ℕ). flagged (d / 2 % 2 ^ w) (eqb (above % 2 ^ p) (number ps)) n) (stop_flag (above / 2 ^ p % 2) (omega arith))
+      ∙ ap (λ (n : ℕ). flagged (d / 2 % 2 ^ w) (above % 2 ^ p == number ps) n) (stop_flag (above / 2 ^ p % 2) (omega arith))
 
 same_self : (bs : List Level) → same_levels bs bs ≡ true
 same_self [] = refl
@@ -110,10 +110,10 @@ entry_is f c h =
     rest = drop (first_stop f) (through f c)
 
     entry : ℕ → Bool → Entry
-    entry x y = (x, cond y 0 2 + 0)
+    entry x y = (x, (if y then 0 else 2) + 0)
 
     made : List Level → List Level → List Level → Entry
-    made b k r = (number b, cond (same_levels k (parity_bits f.parity b)) 0 2 + framing_flag r)
+    made b k r = (number b, (if same_levels k (parity_bits f.parity b) then 0 else 2) + framing_flag r)
 
     e1 : take (width f) (drop 1 (through f c)) ≡ bs
     e1 = take_at bs (ps ++ (Mark ∷ [])) (width f) (low_length (width f) c)

@@ -1,5 +1,5 @@
 -- An entry that is read as it arrives.
-use Rattle.std.proofs.Common.{◌≡◌, ℕ, ◌+◌, ◌≤◌, Bool, true, false, cond, leb, List, [], ◌∷◌, ◌++◌, length, sym, refl, ap, ◌∙◌, ap₂, arith}
+use Rattle.std.proofs.Common.{◌≡◌, ℕ, ◌+◌, ◌≤◌, Bool, true, false, if◌then◌else◌, nat_le, List, [], ◌∷◌, ◌++◌, length, sym, refl, ap, ◌∙◌, ap₂, arith}
 use Rattle.std.specs.Result.{result_ok}
 use Rattle.std.specs.Option.{option_to_list}
 use Rattle.line.specs.declared.level.Level.{Level}
@@ -11,9 +11,9 @@ use Rattle.ends.specs.Runs.{taken_down}
 use Rattle.ends.proofs.Arriving.{taken_by_parts}
 
 in_frame_few : (f : Format) (n : ℕ) (ls : List Level) → length (heard_in_frame f n ls).arrived ≤ 1
-in_frame_few f n ls = go (leb (1 + first_stop f) (length (decided ls)))
+in_frame_few f n ls = go (nat_le (1 + first_stop f) (length (decided ls)))
   where
-    go : (b : Bool) → length (cond b (record { doing = after_frame (entry_of f (decided ls)); arrived = entry_of f (decided ls) ∷ [] }) (nothing (going_on (decided ls) n ls))).arrived ≤ 1
+    go : (b : Bool) → length (if b then record { doing = after_frame (entry_of f (decided ls)); arrived = entry_of f (decided ls) ∷ [] } else nothing (going_on (decided ls) n ls)).arrived ≤ 1
     go true = omega arith
     go false = omega arith
 
@@ -25,9 +25,9 @@ few r Space idle l = omega arith
 few r p (framing n ls) l = in_frame_few r.format (n + 1) (taken_now r.samples (n + 1) ls l)
 few r p (counting n) Mark = omega arith
 few r Mark (counting n) Space = in_frame_few r.format 0 (taken_now r.samples 0 [] Space)
-few r Space (counting n) Space = go (leb r.break_length (n + 1))
+few r Space (counting n) Space = go (nat_le r.break_length (n + 1))
   where
-    go : (b : Bool) → length (cond b (record { doing = idle; arrived = (0, 8) ∷ [] }) (nothing (counting (n + 1)))).arrived ≤ 1
+    go : (b : Bool) → length (if b then record { doing = idle; arrived = (0, 8) ∷ [] } else nothing (counting (n + 1))).arrived ≤ 1
     go true = omega arith
     go false = omega arith
 
