@@ -1,13 +1,12 @@
 -- The lengths of bits, and where their samples lie.
-use Rattle.std.proofs.Common.{◌≡◌, ℕ, zero, suc, ◌+◌, ◌-◌, ◌*◌, ◌/◌, ◌<◌, ◌≤◌, List, [], ◌∷◌, ◌++◌, length, get_or, take, sym, refl, ap, ◌∙◌, ap₂, add-zero, add_assoc, zero-add, arith}
-use borrow.Rule.Slice.PartMut.{put_mid}
+use Rattle.std.proofs.Common.{◌≡◌, ℕ, zero, suc, ◌+◌, ◌-◌, ◌*◌, ◌/◌, ◌<◌, ◌≤◌, List, [], ◌∷◌, ◌++◌, length, get_or, set, take, sym, refl, ap, ◌∙◌, ap₂, add-zero, add_assoc, zero-add, arith}
 use Rattle.std.specs.List.{AllByRecursion as All}
 use Rattle.std.specs.List.{sum as total}
 use Rattle.std.proofs.lemmas.List.Sums.{sum_by-cons}
-use Rattle.std.proofs.lemmas.List.{take_all, take_more, get_or_append_left, get_or-append-add}
+use Rattle.std.proofs.lemmas.List.{length-set, append_assoc, take_all, take_more, get_or_append_left, get_or-append-add}
 use Rattle.std.proofs.ByRecursion.{All-get_or}
 use Rattle.std.proofs.lemmas.List.FromFn.{get_or-map-range_with_len}
-use Rattle.std.proofs.lemmas.Slice.{take-put_mid}
+use Rattle.std.proofs.lemmas.Grind.{take-set_at}
 use Rattle.ends.specs.Times.{sum, start_of}
 use Rattle.usart.specs.Usart.{bit_length, lengths, distance, bit_samples, samples, Lasting, Even}
 use Rattle.usart.proofs.Distance.{close, spaced}
@@ -47,14 +46,22 @@ take_samples s (n ∷ ns) (suc m) =
     ap (λ p. take p (samples s (n ∷ ns))) e ∙ ap (λ l. bit_samples s n ++ l) (take_samples (s + n) ns m)
 
 -- the samples of one more bit, written after those of k bits
-pub samples_more : (ns clocks written : List ℕ) (k : ℕ) → k < length ns → 3 * k ≤ length clocks
-    → take (3 * k) clocks ≡ samples 0 (take k ns) → written ≡ bit_samples (start_of ns k) (get_or ns k 0)
-    → take (3 * (k + 1)) (put_mid (3 * k) (3 * k + 3 - 3 * k) clocks written) ≡ samples 0 (take (k + 1) ns)
-samples_more ns clocks written k h room before e =
-    let n = get_or ns k 0 in
-    take-put_mid (3 * k) (3 * k + 3 - 3 * k) clocks written (3 * (k + 1)) (omega (arith, ap length e)) room
-    ∙ ap₂ (λ l w. l ++ w) before (e ∙ ap (λ t. bit_samples t n) (sym (zero-add (start_of ns k))))
-    ∙ sym (ap (λ l. samples 0 l) (take_more ns k 0 h) ∙ samples_push 0 (take k ns) n)
+pub samples_more : (ns clocks three : List ℕ) (k : ℕ) → k < length ns → 3 * k + 2 < length clocks
+    → take (3 * k) clocks ≡ samples 0 (take k ns) → three ≡ bit_samples (start_of ns k) (get_or ns k 0)
+    → take (3 * (k + 1)) (set (set (set clocks (3 * k) (get_or three 0 0)) (3 * k + 1) (get_or three 1 0)) (3 * k + 2) (get_or three 2 0)) ≡ samples 0 (take (k + 1) ns)
+samples_more ns clocks three k h room before e =
+    let a = get_or three 0 0 in
+    let b = get_or three 1 0 in
+    let c = get_or three 2 0 in
+    let one = set clocks (3 * k) a in
+    let two = set one (3 * k + 1) b in
+    let n = length-set clocks (3 * k) a in
+    take-set_at two (3 * k + 2) (3 * (k + 1)) c (omega arith) (omega (arith, length-set one (3 * k + 1) b, n))
+    ∙ ap (λ l. l ++ c ∷ []) (take-set_at one (3 * k + 1) (3 * k + 2) b (omega arith) (omega (arith, n)))
+    ∙ ap (λ l. (l ++ b ∷ []) ++ c ∷ []) (take-set_at clocks (3 * k) (3 * k + 1) a (omega arith) (omega arith))
+    ∙ append_assoc (take (3 * k) clocks ++ a ∷ []) (b ∷ []) (c ∷ []) ∙ append_assoc (take (3 * k) clocks) (a ∷ []) (b ∷ c ∷ [])
+    ∙ ap₂ (λ l w. l ++ w) before (ap (λ l. get_or l 0 0 ∷ get_or l 1 0 ∷ get_or l 2 0 ∷ []) e ∙ ap (λ t. bit_samples t (get_or ns k 0)) (sym (zero-add (start_of ns k))))
+    ∙ sym (ap (λ l. samples 0 l) (take_more ns k 0 h) ∙ samples_push 0 (take k ns) (get_or ns k 0))
 
 -- sample j of bit k
 sample_at : (s : ℕ) (ns : List ℕ) (k j : ℕ) → k < length ns → j < 3

@@ -10,7 +10,7 @@ loop-k-preserved c =
     let ns = c.args.lengths.now in
     let k = c.loop-k.k in
     let n = c.requires.lasting k (omega arith) in (
-      samples_more ns c.loop-k.clocks c.copy_from_slice.new.self k (omega arith) (omega arith) c.loop-k.invariant.0 (c.copy_from_slice.ensures.after ∙ c.bit_samples.ensures ∙ ap (λ s. bit_samples s (get_or ns k 0)) c.loop-k.invariant.1),
+      samples_more ns c.loop-k.clocks c.bit_samples.result k (omega arith) (omega arith) c.loop-k.invariant.0 (c.bit_samples.ensures ∙ ap (λ s. bit_samples s (get_or ns k 0)) c.loop-k.invariant.1),
       omega (arith, start_more ns k (omega arith)),
       omega arith,
       search (rules, places),
