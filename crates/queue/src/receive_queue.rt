@@ -53,6 +53,8 @@ impl<R: Receiver> Receiver for ReceiveQueue<R> {
         self.below.sample_clock(sample)
     }
 
+    // laid out in the loop of a link's run, which takes a quarter less time so
+    #[inline(always)]
     fn clock(&mut self, level: Level) {
         self.take_over();
         self.below.clock(level);
