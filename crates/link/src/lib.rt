@@ -3,7 +3,6 @@
 #![tactic(auto)]
 
 pub mod act;
-pub mod acting;
 pub mod joined;
 pub mod rates;
 
