@@ -1,13 +1,14 @@
 -- Fit goes from bit to bit, and passes exactly where no bit is early or late.
-use Rattle.std.proofs.Common.{◌≡◌, ℕ, zero, suc, ◌+◌, ◌-◌, ◌*◌, ◌<◌, ◌≤◌, Bool, ltb, List, [], ◌∷◌, get_or, sym, refl, ap, ◌∙◌, ap₂, ⊎_elim, arith}
+use Rattle.std.proofs.Common.{◌≡◌, ℕ, zero, suc, ◌+◌, ◌*◌, ◌<◌, ◌≤◌, Bool, true, false, cond, ltb, List, [], ◌∷◌, get_or, Ok, Err, sym, refl, ap, ◌∙◌, ap₂, ⊎_elim, arith}
 use Rattle.std.proofs.lemmas.Bool.{lt-ltb, le-ltb, cases_lt, cond-true, cond-false}
 use Rattle.line.specs.Frames.{first_stop}
 use Rattle.ends.specs.Times.{start_of}
 use Rattle.ends.specs.Sender.{SenderState}
 use Rattle.ends.specs.Receiver.{ReceiverState, first_sample, third_sample}
+use Rattle.link.specs.declared.rates.Verdict.{Verdict}
 use Rattle.link.specs.declared.rates.Verdict.TheVariants.{Passes, Early as IsEarly, Late as IsLate}
 use Rattle.link.specs.Fit.{Early, Late, Fits}
-use Rattle.link.specs.Judging.{judged}
+use Rattle.link.specs.Judging.{bit_judged, judged}
 
 -- a bit begins where the one before it ends
 pub start_more : (ns : List ℕ) (k : ℕ) → start_of ns (k + 1) ≡ start_of ns k + get_or ns k 0
@@ -68,32 +69,47 @@ module _ (s : SenderState) (r : ReceiverState) (a b : ℕ) where
   pub fits_passes : Fits s r a b → judged s r a b 0 (1 + first_stop r.format) ≡ Passes
   fits_passes f = all_good (1 + first_stop r.format) 0 (λ j low high. f j (omega arith))
 
-pub ends : (ns : List ℕ) (k : ℕ) {begin length : ℕ} → begin ≡ start_of ns k → length ≡ get_or ns k 0 → begin + length ≡ start_of ns (k + 1)
-ends ns k begins lasts = ap₂ (λ (x y : ℕ). x + y) begins lasts ∙ sym (start_more ns k)
+-- no bit is longer than 65,536 clocks
+pub start_most : (ns : List ℕ) → ((k : ℕ) → get_or ns k 0 ≤ 65536) → (k : ℕ) → start_of ns k ≤ 65536 * k
+start_most ns short zero = omega arith
+start_most ns short (suc k) = let one : k + 1 ≡ suc k = omega arith in omega (arith, start_most ns short k, short k, start_more ns k, ap (start_of ns) one)
 
--- one turn, by the numbers at hand: where bit k begins and how long it lasts, and its first and third sample
-module _ (s : SenderState) (r : ReceiverState) (a b : ℕ) {k bits begin length first third : ℕ} (inside : k < bits)
+-- one bit, by the numbers at hand: the rates, where it begins and how long it lasts, and its first and third sample
+module _ (s : SenderState) (r : ReceiverState) (a b k : ℕ) {send receive begin length first third : ℕ} (sends : send ≡ a) (receives : receive ≡ b)
     (begins : begin ≡ start_of s.lengths k) (lasts : length ≡ get_or s.lengths k 0) (firsts : first ≡ first_sample r k) (thirds : third ≡ third_sample r k) where
-  left : bits - k ≡ suc (bits - (k + 1))
-  left = omega arith
+  end : begin + length ≡ start_of s.lengths (k + 1)
+  end = omega (arith, begins, lasts, start_more s.lengths k)
 
-  at_first : first * a ≡ first_sample r k * a
-  at_first = ap (λ (x : ℕ). x * a) firsts
+  not_early : begin * receive ≤ first * send → early? s r a b k ≡ false
+  not_early ne = le-ltb _ _ (omega (arith, ne, ap₂ (λ (x y : ℕ). x * y) firsts sends, ap₂ (λ (x y : ℕ). x * y) begins receives))
 
-  at_begin : begin * b ≡ start_of s.lengths k * b
-  at_begin = ap (λ (x : ℕ). x * b) begins
+  at_third : (third + 1) * send ≡ (third_sample r k + 1) * a
+  at_third = ap₂ (λ (x y : ℕ). (x + 1) * y) thirds sends
 
-  at_third : (third + 1) * a ≡ (third_sample r k + 1) * a
-  at_third = ap (λ (x : ℕ). (x + 1) * a) thirds
+  at_end : (begin + length) * receive ≡ start_of s.lengths (k + 1) * b
+  at_end = ap₂ (λ (x y : ℕ). x * y) end receives
 
-  at_end : (begin + length) * b ≡ start_of s.lengths (k + 1) * b
-  at_end = ap (λ (x : ℕ). x * b) (ends s.lengths k begins lasts)
+  pub is_late : begin * receive ≤ first * send → (begin + length) * receive < (third + 1) * send → Err (IsLate k) ≡ bit_judged s r a b k
+  is_late ne e = sym (cond-false (early? s r a b k) _ _ (not_early ne) ∙ cond-true (late? s r a b k) _ _ (lt-ltb _ _ (omega (arith, e, at_third, at_end))))
 
-  pub turn_early : first * a < begin * b → judged s r a b k (bits - k) ≡ IsEarly k
-  turn_early e = ap (judged s r a b k) left ∙ bit_early s r a b k (bits - (k + 1)) (omega (arith, e, at_first, at_begin))
+  pub is_good : begin * receive ≤ first * send → (third + 1) * send ≤ (begin + length) * receive → Ok (begin + length) ≡ bit_judged s r a b k
+  is_good ne nl = ap Ok end ∙ sym (cond-false (early? s r a b k) _ _ (not_early ne) ∙ cond-false (late? s r a b k) _ _ (le-ltb _ _ (omega (arith, nl, at_third, at_end))))
 
-  pub turn_late : begin * b ≤ first * a → (begin + length) * b < (third + 1) * a → judged s r a b k (bits - k) ≡ IsLate k
-  turn_late ne e = ap (judged s r a b k) left ∙ bit_late s r a b k (bits - (k + 1)) (omega (arith, ne, at_first, at_begin)) (omega (arith, e, at_third, at_end))
+module _ (s : SenderState) (r : ReceiverState) (a b k n : ℕ) where
+  pub goes_on : (end : ℕ) → bit_judged s r a b k ≡ Ok end → (end ≡ start_of s.lengths (k + 1)) × (judged s r a b k (suc n) ≡ judged s r a b (k + 1) n)
+  goes_on end = go (early? s r a b k) (late? s r a b k)
+    where
+      go : (x y : Bool) → cond x (Err (IsEarly k)) (cond y (Err (IsLate k)) (Ok (start_of s.lengths (k + 1)))) ≡ Ok end
+          → (end ≡ start_of s.lengths (k + 1)) × (cond x (IsEarly k) (cond y (IsLate k) (judged s r a b (k + 1) n)) ≡ judged s r a b (k + 1) n)
+      go true y is = cc
+      go false true is = cc
+      go false false is = (cc, refl)
 
-  pub turn_good : begin * b ≤ first * a → (third + 1) * a ≤ (begin + length) * b → judged s r a b k (bits - k) ≡ judged s r a b (k + 1) (bits - (k + 1))
-  turn_good ne nl = ap (judged s r a b k) left ∙ bit_good s r a b k (bits - (k + 1)) (omega (arith, ne, at_first, at_begin)) (omega (arith, nl, at_third, at_end))
+  pub stops : (v : Verdict) → bit_judged s r a b k ≡ Err v → judged s r a b k (suc n) ≡ v
+  stops v = go (early? s r a b k) (late? s r a b k)
+    where
+      go : (x y : Bool) → cond x (Err (IsEarly k)) (cond y (Err (IsLate k)) (Ok (start_of s.lengths (k + 1)))) ≡ Err v
+          → cond x (IsEarly k) (cond y (IsLate k) (judged s r a b (k + 1) n)) ≡ v
+      go true y is = cc
+      go false true is = cc
+      go false false is = cc

@@ -14,3 +14,4 @@ pub mod Run
 pub mod Fitting
 pub mod Acts
 pub mod Judging
+pub mod Folding

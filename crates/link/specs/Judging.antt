@@ -18,6 +18,13 @@ judged s r a b k (suc n) =
     else if nat_lt (start_of s.lengths (k + 1) * b) ((third_sample r k + 1) * a) then Late k
     else judged s r a b (k + 1) n
 
+-- where bit k ends, if it is neither early nor late
+abbrev pub bit_judged : SenderState → ReceiverState → ℕ → ℕ → ℕ → Result ℕ Verdict
+bit_judged s r a b k =
+    if nat_lt (first_sample r k * a) (start_of s.lengths k * b) then Err (Early k)
+    else if nat_lt (start_of s.lengths (k + 1) * b) ((third_sample r k + 1) * a) then Err (Late k)
+    else Ok (start_of s.lengths (k + 1))
+
 abbrev pub rate_in_range : ℕ → Bool
 rate_in_range n = nat_le 1 n && nat_le n 16777216
 
