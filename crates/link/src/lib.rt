@@ -8,4 +8,4 @@ pub mod rates;
 
 pub use act::{Act, Answer};
 pub use joined::Link;
-pub use rates::{Rates, Verdict, fit};
+pub use rates::{MOST_RATE, Rates, Verdict, fit};

@@ -9,7 +9,8 @@ ghost use Rattle.link.specs.Judging.{fit_answer, bit_judged, judged, rate_in_ran
 use ends::{Receiver, Sender};
 use line::Refusal;
 
-const MOST_RATE: u32 = 16_777_216;
+// The highest rate that Fit judges.
+pub const MOST_RATE: u32 = 16_777_216;
 
 #[derive(Clone, Copy, PartialEq, Eq, Debug)]
 pub enum Verdict {

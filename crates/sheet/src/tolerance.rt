@@ -3,10 +3,7 @@ ghost use Rattle.std.specs.Prelude.{◌≡◌, ◌+◌, ◌-◌, ◌<◌, ◌≤
 ghost use Rattle.sheet.specs.Tolerance.{own_rate};
 
 use ends::{Receiver, Sender};
-use link::{Rates, Verdict, fit};
-
-// One more than the greatest rate that Fit takes, which link keeps to itself.
-const ABOVE_ALL: u32 = 16_777_217;
+use link::{MOST_RATE, Rates, Verdict, fit};
 
 // The end whose clock is off.
 #[derive(Clone, Copy, PartialEq, Eq, Debug)]
@@ -93,7 +90,7 @@ impl<S: Sender, R: Receiver> Tolerance<'_, S, R> {
     pub fn highest(&self) -> Option<u32>
         ensures { MatchOption result (passes_of S.Sender.meaning R.Receiver.meaning self.now (own_rate self.now.rates self.now.off) ≡ false) (λ h. UpTo (passes_of S.Sender.meaning R.Receiver.meaning self.now) (own_rate self.now.rates self.now.off) h) }
     {
-        self.edge_towards(ABOVE_ALL)
+        self.edge_towards(MOST_RATE + 1)
     }
 
     // The lowest rate of the clock down to which Fit passes; none where it does not pass at all.
