@@ -1,6 +1,6 @@
 -- One act more of a run.
 use Rattle.std.proofs.Common.{◌≡◌, ℕ, suc, ◌+◌, ◌<◌, ◌≤◌, List, [], ◌∷◌, ◌++◌, length, get_or, take, drop, set, Ok, Err, Result, sym, refl, ap, ◌∙◌, arith}
-use Rattle.std.proofs.lemmas.List.{append_assoc, take_more, drop_more, length-take-le, set_at, take_all}
+use Rattle.std.proofs.lemmas.List.{append_assoc, take_more, drop_more, length-take-le, set_at}
 use Rattle.std.proofs.lemmas.List.Sums.{fold_push}
 use Rattle.line.specs.declared.refusal.Refusal.{Refusal}
 use Rattle.ends.specs.Receiver.{Entry, oldest}
@@ -39,15 +39,6 @@ module _ (m : LinkState) (acts : List Act) (i : ℕ) where
       ap {B = List Outcome} (λ l. set l i r) (n ∙ ap {B = List Outcome} (λ l. so_far ++ l) (drop_more old i r room))
       ∙ set_at so_far (get_or old i r) (drop (i + 1) old) r i size
       ∙ sym (append_assoc so_far (r ∷ []) (drop (i + 1) old)) ∙ ap {B = List Outcome} (λ l. l ++ drop (i + 1) old) (sym step)
-
-  pub state_all : (u : LinkState) → length acts ≤ i → u ≡ after m (take i acts) → u ≡ after m acts
-  state_all u done e = e ∙ ap (after m) (take_all i acts done)
-
-  pub answers_all : (old was : List Outcome) → length acts ≤ i → i ≤ length acts → was ≡ all_answers m (take i acts) ++ drop i old
-      → was ≡ all_answers m acts ++ drop (length acts) old
-  answers_all old was done most e =
-      let k : i ≡ length acts = omega arith in
-      e ∙ ap {B = List Outcome} (λ xs. all_answers m xs ++ drop i old) (take_all i acts done) ∙ ap {B = List Outcome} (λ n. all_answers m acts ++ drop n old) k
 
 -- the entries among the answers are those that the reads answered
 pub reads_told : (m : LinkState) (acts : List Act) → told (all_answers m acts) ≡ read_answers m acts

@@ -16,7 +16,7 @@ use Rattle.ends.specs.Receiver.{SoundReceiver, Entry, Doing, idle, heard, arrive
 use Rattle.link.specs.Link.{LinkState, linked}
 use Rattle.link.specs.History.{noted_entries, read_answers, History, blank, noted_load, noted_send, noted_clock, noted_read, history_from, history}
 use Rattle.link.specs.Sampling.{SampledFrame}
-use Rattle.link.specs.Delivery.{Noiseless, Sampled, Delivered, Delivery}
+use Rattle.link.specs.Delivery.{Noiseless, Sampled, Delivered, Delivery, Delivers}
 use Rattle.link.proofs.Agreeing.{agreeing}
 use Rattle.link.proofs.Answered.{all_noted}
 use Rattle.link.proofs.Grows.{grows, sampled_back}
@@ -156,3 +156,7 @@ pub delivery : Delivery
 delivery m oks okr rest before since quiet nl =
     subst (λ (y : LinkState). Sampled y (history y since) → Promised since y) (sym (quiet_rests m oks okr rest before quiet))
     (rest_delivers m oks okr since nl)
+
+-- so does a link in use, whatever it was given before
+pub delivers : (m : LinkState) (acts : List Act) → Delivers m acts
+delivers m acts start oks okr rest past before since is split quiet noiseless sampled = delivery start oks okr rest before since quiet noiseless sampled

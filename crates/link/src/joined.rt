@@ -99,6 +99,7 @@ impl<S: Sender, R: Receiver> Link<S, R> {
     }
 
     // Does the acts one after the other and writes down what each answers; answers how many there were.
+    #[tactic(auto, using(crate::proofs::Acts::reads_told))]
     pub fn run(
         &mut self,
         acts: &[Act],

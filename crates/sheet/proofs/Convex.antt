@@ -1,6 +1,6 @@
 -- The rates at which Fit passes have no gaps.
-use Rattle.std.proofs.Common.{◌≡◌, ℕ, ◌+◌, ◌-◌, ◌≤◌, Bool, true, false, cond, ◌&&◌, leb, Ok, Err, refl, ap₂, mul-le-mul_left, arith}
-use Rattle.std.proofs.lemmas.Bool.{and_parts, leb-true, le-leb}
+use Rattle.std.proofs.Common.{◌≡◌, ℕ, ◌+◌, ◌-◌, ◌≤◌, Bool, true, false, cond, ◌&&◌, Ok, Err, refl, mul-le-mul_left, arith}
+use Rattle.std.proofs.lemmas.Bool.Decides.{nat_tests}
 use Rattle.line.specs.declared.refusal.Refusal.TheVariants.{OutOfRange, FormatsDiffer}
 use Rattle.line.specs.Formats.{agree}
 use Rattle.line.specs.Frames.{first_stop}
@@ -55,10 +55,7 @@ module _ (s : SenderState) (r : ReceiverState) where
   )
 
 between_range : (b c n : ℕ) → rate_in_range b ≡ true → rate_in_range c ≡ true → b ≤ n → n ≤ c → rate_in_range n ≡ true
-between_range b c n at_low at_high low high =
-    let x = leb-true 1 b (and_parts (leb 1 b) (leb b 16777216) at_low).0 in
-    let y = leb-true c 16777216 (and_parts (leb 1 c) (leb c 16777216) at_high).1 in
-    ap₂ {C = Bool} (λ u v. u && v) (le-leb 1 n (omega arith)) (le-leb n 16777216 (omega arith))
+between_range b c n at_low at_high low high = grind (arith, nat_tests)
 
 pub no_gaps : (s : SenderState) (r : ReceiverState) (q : Rates) (o : Off) (b c n : ℕ) → passes_at s r q o b ≡ true → passes_at s r q o c ≡ true → b ≤ n → n ≤ c
     → passes_at s r q o n ≡ true
@@ -94,7 +91,7 @@ pub in_range : (s : SenderState) (r : ReceiverState) (q : Rates) (o : Off) (n : 
 in_range s r q o n ok = go o ok
   where
     bounds : rate_in_range n ≡ true → (1 ≤ n) × (n ≤ 16777216)
-    bounds e = let p = and_parts (leb 1 n) (leb n 16777216) e in (leb-true 1 n p.0, leb-true n 16777216 p.1)
+    bounds e = grind (arith, nat_tests)
 
     go : (o : Off) → passes_at s r q o n ≡ true → (1 ≤ n) × (n ≤ 16777216)
     go Sender e = bounds (passing s r n q.receive e).send

@@ -1,8 +1,8 @@
 -- Rounding finds the nearest multiple.
-use Rattle.std.proofs.Common.{◌≡◌, ℕ, suc, ◌+◌, ◌*◌, ◌/◌, ◌<◌, ◌≤◌, Ok, ap, ⊎_elim, mod-lt, mul-le-mul_left, mul-suc, arith}
+use Rattle.std.proofs.Common.{◌≡◌, ℕ, suc, ◌+◌, ◌*◌, ◌/◌, ◌<◌, ◌≤◌, ap, ⊎_elim, mod-lt, mul-le-mul_left, mul-suc, arith}
 use native.Mathlib.Nat.{div-add-mod}
-use Rattle.std.proofs.lemmas.Bool.{cases_lt, ne_eqb, le-ltb}
-use Rattle.sheet.specs.Divider.{apart, rounded, nearest}
+use Rattle.std.proofs.lemmas.Bool.{cases_lt}
+use Rattle.sheet.specs.Divider.{apart, rounded}
 
 -- u × d lies within half of u of h, so no other multiple of u lies nearer
 nearer : (h u d other : ℕ) → 2 * (u * d) ≤ 2 * h + u → 2 * h ≤ 2 * (u * d) + u → apart (u * d) h ≤ apart (u * other) h
@@ -20,6 +20,3 @@ rounds h u some other =
     let whole = div-add-mod n u in
     let part = mod-lt n (let x : 0 < u = ⊎_elim (λ (l : 0 < u). l) (λ (l : u ≤ 0). absurd (some (omega arith))) (cases_lt 0 u) in x) in
     nearer h u (n / u) other (omega (arith, whole, part)) (omega (arith, whole, part))
-
-pub nearest_is : (h b : ℕ) → (16 * b ≡ 0 → ⊥) → 1 ≤ rounded h (16 * b) → rounded h (16 * b) ≤ 4096 → Ok (rounded h (16 * b)) ≡ nearest h b
-nearest_is h b some low high = simp (ne_eqb (16 * b) 0 some, le-ltb (rounded h (16 * b)) 1 low, le-ltb 4096 (rounded h (16 * b)) high)

@@ -1,18 +1,13 @@
 -- Fit passes exactly where steady clocks meet the sampling condition.
-use Rattle.std.proofs.Common.{◌≡◌, ℕ, ◌<◌, true, ◌&&◌, leb, sym, ◌∙◌}
-use Rattle.std.proofs.lemmas.Bool.{and_parts, leb-true}
+use Rattle.std.proofs.Common.{◌≡◌, ℕ, ◌<◌, true, ◌&&◌, sym, ◌∙◌, arith}
+use Rattle.std.proofs.lemmas.Bool.Decides.{nat_tests}
 use Rattle.link.specs.Judging.{rate_in_range}
 use Rattle.link.proofs.Fitting.{fitting, steady_delivers}
 use Rattle.link.proofs.Judging.{passes_fits, fits_passes}
 use Rattle.link.proofs.rates.fit.Goals as goal
 
-some_rate : (a : ℕ) → rate_in_range a ≡ true → 0 < a
-some_rate a e = leb-true 1 a (and_parts (leb 1 a) (leb a 16777216) e).0
-
 some_rates : (a b : ℕ) → true ≡ rate_in_range a && rate_in_range b → (0 < a) × (0 < b)
-some_rates a b e =
-    let parts = and_parts (rate_in_range a) (rate_in_range b) (sym e) in
-    (some_rate a parts.0, some_rate b parts.1)
+some_rates a b e = grind (arith, nat_tests)
 
 pub returns-clause-exactly : goal.returns-clause-exactly
 returns-clause-exactly g c =
