@@ -165,9 +165,7 @@ impl Chip {
             return Level::Mark;
         };
         let (utxd, arrived) = ends.clock(self.mode.listen, level);
-        if let Some(entry) = arrived {
-            self.receive.take(self.mode, entry);
-        }
+        self.receive.take(self.mode, arrived);
         utxd
     }
 }

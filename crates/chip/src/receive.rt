@@ -1,6 +1,7 @@
 // The receive side: URCTL, URXBUF and URXIFG.
 ghost use Rattle.std.specs.Prelude.{◌≡◌};
-ghost use Rattle.chip.specs.Receiving.{receive_byte, urctl_written, cleared, taken};
+ghost use Rattle.std.specs.Option.{option_to_list};
+ghost use Rattle.chip.specs.Receiving.{receive_byte, urctl_written, cleared, all_taken};
 
 use super::bits::{bits, byte, has};
 use super::mode::Mode;
@@ -71,11 +72,13 @@ impl Receive {
         };
     }
 
-    // An entry has arrived.
-    pub(crate) fn take(&mut self, mode: Mode, entry: (u16, u8))
-        ensures { self.new ≡ taken mode self.old entry }
+    // What has arrived at a clock, if something has.
+    pub(crate) fn take(&mut self, mode: Mode, arrived: Option<(u16, u8)>)
+        ensures { self.new ≡ all_taken mode self.old (option_to_list arrived) }
     {
-        let (character, flags) = entry;
+        let Some((character, flags)) = arrived else {
+            return;
+        };
         let address = character >= mode.values();
         if mode.mm && self.urxwie && !address {
             return;
