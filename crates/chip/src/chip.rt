@@ -126,8 +126,9 @@ impl Chip {
             UMCTL if held => self.rate.modulator = value,
             UBR0 if held => self.rate.low = value,
             UBR1 if held => self.rate.high = value,
-            UTXBUF if !held && self.utxifg() => return self.send(value),
-            UTXBUF if !held => return Err(Refusal::Full),
+            // in reset UTXIFG is 1
+            UTXBUF if !self.utxifg() => return Err(Refusal::Full),
+            UTXBUF if !held => return self.send(value),
             UCTL..=UTXBUF => return Err(Refusal::Closed),
             _ => return Err(Refusal::NoSuchRegister),
         }

@@ -100,7 +100,7 @@ impl Mode {
         ensures { result ≡ value % values self }
     {
         // below 256, so the cast keeps it
-        (u16::from(value) % self.values()) as u8
+        self.character(false, value) as u8
     }
 
     // The character that a byte becomes, an address where `wake` is set and characters have an address bit.
