@@ -1,5 +1,5 @@
 -- What the flags tell.
-use Rattle.std.proofs.Common.{◌≡◌, Bool, ◌&&◌, ◌||◌, List, [], ◌∷◌, MatchBool, Option, sym, refl, ◌∙◌, subst}
+use Rattle.std.proofs.Common.{◌≡◌, Bool, false, slice_index_or, ◌&&◌, ◌||◌, List, [], ◌∷◌, MatchBool, Option, sym, refl, ◌∙◌, subst}
 use Rattle.std.proofs.Math.Bool.{beq}
 use Rattle.std.specs.Cmp.{booleans_Decides}
 use Rattle.ends.specs.Sender.{empty}
@@ -12,7 +12,7 @@ use Rattle.chip.specs.Receiving.{any_error}
 use Rattle.chip.specs.Pairs.{EndsState}
 use Rattle.chip.specs.Chips.{holding, waiting, left}
 use Rattle.chip.specs.Laws.{Tells}
-use Rattle.chip.proofs.EachBit.{at_eight}
+use Rattle.chip.proofs.EachBit.{listed, holds_of}
 
 empty_tells : {T : Type 0} (xs : List T) → MatchBool (empty xs) (xs ≡ []) (xs ≡ [] → ⊥)
 empty_tells [] = refl
@@ -25,12 +25,12 @@ both_tell (x ∷ xs) ys = λ p. cc (p.0)
 
 -- bit 0 of a byte, and whether any of the four highest is set: computed over all bytes
 pub lowest : (a b c d e f g h : Bool) → has (byte a b c d e f g h) 0x01 ≡ h
-lowest a b c d e f g h = (booleans_Decides _ _).0 (at_eight (λ a b c d e f g h. beq (has (byte a b c d e f g h) 0x01) h) refl a b c d e f g h)
+lowest a b c d e f g h = (booleans_Decides _ _).0 (holds_of (a ∷ b ∷ c ∷ d ∷ e ∷ f ∷ g ∷ h ∷ []) (λ bs. beq (has (listed bs) 0x01) (slice_index_or bs 7 false)) refl)
 
 highest : (a b c d e f g h : Bool) → a || (b || (c || d))
     ≡ has (byte a b c d e f g h) 0x80 || (has (byte a b c d e f g h) 0x40 || (has (byte a b c d e f g h) 0x20 || has (byte a b c d e f g h) 0x10))
-highest a b c d e f g h = (booleans_Decides _ _).0 (at_eight (λ a b c d e f g h. beq (a || (b || (c || d)))
-    (has (byte a b c d e f g h) 0x80 || (has (byte a b c d e f g h) 0x40 || (has (byte a b c d e f g h) 0x20 || has (byte a b c d e f g h) 0x10)))) refl a b c d e f g h)
+highest a b c d e f g h = (booleans_Decides _ _).0 (holds_of (a ∷ b ∷ c ∷ d ∷ e ∷ f ∷ g ∷ h ∷ []) (λ bs. beq (slice_index_or bs 0 false || (slice_index_or bs 1 false || (slice_index_or bs 2 false || slice_index_or bs 3 false)))
+    (has (listed bs) 0x80 || (has (listed bs) 0x40 || (has (listed bs) 0x20 || has (listed bs) 0x10)))) refl)
 
 pub tells : (m : Mode) (t : Transmit) (r : Receive) (q : Rate) (e : Option EndsState) → Tells (holding m t r q e)
 tells m t r q e =
