@@ -14,7 +14,7 @@ use Rattle.chip.specs.Bytes.{has}
 use Rattle.chip.specs.Modes.{format_of, character_of}
 use Rattle.chip.specs.declared.pair.Ends.{Ends}
 use Rattle.chip.specs.Pairs.{EndsState, ends_of, ends_clocked, ends_loaded}
-use Rattle.chip.specs.declared.registers.Chip.{Chip}
+use Rattle.chip.specs.declared.chip.Chip.{Chip}
 use Rattle.chip.specs.Chips.{ChipState, chip_of, holding, resets, write_answer, written, clocked, leaves, on_line, utxd}
 use Rattle.chip.specs.Acts.{Act, writes, reads, clocks, NoReset, on_utxd, Step, loads, said, AllTaken, steps}
 use Rattle.chip.specs.Laws.{Speaks}

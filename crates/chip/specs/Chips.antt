@@ -10,7 +10,7 @@ use Rattle.chip.specs.declared.mode.Mode.{Mode}
 use Rattle.chip.specs.declared.transmit.Transmit.{Transmit}
 use Rattle.chip.specs.declared.receive.Receive.{Receive}
 use Rattle.chip.specs.declared.rate.Rate.{Rate}
-use Rattle.chip.specs.declared.registers.Chip.{Chip}
+use Rattle.chip.specs.declared.chip.Chip.{Chip}
 use Rattle.chip.specs.Bytes.{has}
 use Rattle.chip.specs.Modes.{mode_of, mode_byte, format_of, values, character_of}
 use Rattle.chip.specs.Transmitting.{transmit_byte, utctl_written, buffer_written, unwoken}

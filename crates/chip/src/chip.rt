@@ -1,10 +1,9 @@
-// How the registers are written and read, and how the chip is clocked.
-ghost use Rattle.std.specs.Prelude.{◌≡◌, ℕ, ◌<◌, true, not, if◌then◌else◌, Some, None, Ok, Err, nat_lt};
-ghost use Rattle.line.specs.declared.refusal.Refusal.TheVariants.{OutOfRange};
-ghost use Rattle.chip.specs.Transmitting.{unwoken};
-ghost use Rattle.chip.specs.Receiving.{cleared};
-ghost use Rattle.chip.specs.Chips.{ChipState, chip_of, holding, released, power_up, divider, begun, write_answer, after_write, read_answer, after_read, utxd, after_clock};
-ghost use Rattle.chip.specs.Laws.{Tells, ReadBack, Speaks, Listens};
+// The chip: its registers and its two ends, how the registers are written and read, and how it is clocked.
+ghost use Rattle.std.specs.Prelude.{◌≡◌};
+ghost use Rattle.std.specs.Option.{ForSome};
+ghost use Rattle.line.specs.Frames.{width};
+ghost use Rattle.ends.specs.BareSender.{meant};
+ghost use Rattle.chip.specs.Modes.{format_of};
 
 use super::address::*;
 use super::bits::has;
@@ -12,7 +11,6 @@ use super::mode::{Mode, SWRST, SYNC};
 use super::pair::Ends;
 use super::rate::Rate;
 use super::receive::Receive;
-use super::registers::Chip;
 use super::transmit::Transmit;
 use ends::{Kind, Sender};
 use line::{Format, Level, Refusal};
@@ -27,7 +25,27 @@ pub struct Interrupts {
     pub utxifg: bool,
 }
 
+// No Model: the chip is copied, so one would have to give its fields back, and what the ends mean has less than their tables.
+#[derive(Clone, Copy)]
+pub struct Chip {
+    pub(crate) mode: Mode,
+    pub(crate) transmit: Transmit,
+    pub(crate) receive: Receive,
+    pub(crate) rate: Rate,
+    // none while held in reset
+    pub(crate) ends: Option<Ends>,
+    // the sender takes what is written in this mode
+    ghost wide: { ForSome ends (λ e. width (meant e.sender).format ≡ width (format_of mode)) },
+}
+
 impl Chip {
+    ghost use Rattle.std.specs.Prelude.{◌≡◌, ℕ, ◌<◌, true, not, if◌then◌else◌, Some, None, Ok, Err, nat_lt};
+    ghost use Rattle.line.specs.declared.refusal.Refusal.TheVariants.{OutOfRange};
+    ghost use Rattle.chip.specs.Transmitting.{unwoken};
+    ghost use Rattle.chip.specs.Receiving.{cleared};
+    ghost use Rattle.chip.specs.Chips.{ChipState, chip_of, holding, released, power_up, divider, begun, write_answer, after_write, read_answer, after_read, utxd, after_clock};
+    ghost use Rattle.chip.specs.Laws.{Tells, ReadBack, Speaks, Listens};
+
     // A chip just after power-up, held in reset.
     pub fn power_up() -> Chip
         ensures state { chip_of result ≡ power_up }

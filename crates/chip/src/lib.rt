@@ -5,13 +5,10 @@
 pub mod address;
 pub mod bits;
 pub mod chip;
-pub mod clocking;
 pub mod mode;
 pub mod pair;
 pub mod rate;
 pub mod receive;
-pub mod registers;
 pub mod transmit;
 
-pub use chip::Interrupts;
-pub use registers::Chip;
+pub use chip::{Chip, Interrupts};

@@ -1,5 +1,5 @@
 use Rattle.chip.proofs.Stored.{read_back}
-use Rattle.chip.proofs.registers.Chip.power_up.Goals as goal
+use Rattle.chip.proofs.chip.Chip.power_up.Goals as goal
 
 pub returns-clause-stored : goal.returns-clause-stored
 returns-clause-stored c = read_back

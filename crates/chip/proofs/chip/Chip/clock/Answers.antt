@@ -4,7 +4,7 @@ use Rattle.chip.specs.Receiving.{all_taken}
 use Rattle.chip.proofs.Speaks.{speaking}
 use Rattle.chip.proofs.Receives.{receives}
 use Rattle.chip.proofs.Clocks.{still_wide, clocked_chip}
-use Rattle.chip.proofs.registers.Chip.clock.Goals as goal
+use Rattle.chip.proofs.chip.Chip.clock.Goals as goal
 
 pub invariant_of-self-2 : goal.invariant_of-self-2
 invariant_of-self-2 c =

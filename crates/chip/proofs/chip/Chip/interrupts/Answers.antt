@@ -1,7 +1,7 @@
 use Rattle.std.proofs.Common.{option_map}
 use Rattle.chip.specs.Pairs.{ends_of}
 use Rattle.chip.proofs.Tells.{tells}
-use Rattle.chip.proofs.registers.Chip.interrupts.Goals as goal
+use Rattle.chip.proofs.chip.Chip.interrupts.Goals as goal
 
 pub returns-clause-tells : goal.returns-clause-tells
 returns-clause-tells c =
