@@ -1,4 +1,5 @@
-// The addresses of the registers. Numbers and no enum: firmware passes numbers, and the rules of a write speak of ranges of them.
+// The addresses of the registers. An enum made once of the address was tried: `read` proves over it and loses its last arm, but a write has to
+// be one match over ranges of addresses, which an enum's patterns do not have, so constants and enum would both stand for the same eight numbers.
 pub const UCTL: u16 = 0x70;
 
 pub const UTCTL: u16 = 0x71;
