@@ -1,5 +1,5 @@
 -- What is loaded into URXBUF is what a bare receiver takes down.
-use Rattle.std.proofs.Common.{◌≡◌, ℕ, ◌≤◌, Bool, true, false, cond, not, ◌&&◌, ◌||◌, eqb, List, [], ◌∷◌, ◌++◌, length, Some, Option, sym, refl, ap, ◌∙◌, subst, ap₂, arith}
+use Rattle.std.proofs.Common.{◌≡◌, ℕ, ◌≤◌, Bool, true, false, if◌then◌else◌, not, ◌&&◌, ◌||◌, ◌==◌, List, [], ◌∷◌, ◌++◌, length, Some, Option, sym, refl, ap, ◌∙◌, subst, ap₂, arith}
 use Rattle.std.proofs.Math.Bool.{or-false}
 use Rattle.line.specs.declared.level.Level.{Level}
 use Rattle.ends.specs.Sender.{empty, after_send}
@@ -20,8 +20,8 @@ same_enables : (m : Mode) (r s : Receive) → r.urxeie ≡ s.urxeie → r.urxwie
 same_enables m r s i w [] = refl
 same_enables m r s i w (x ∷ es) =
     let open_to : let_through m r x ≡ let_through m s x =
-    ap₂ {C = Bool} (λ a b. not (m.mm && (a && not (address_bit m x))) && (eqb x.1 0 || b)) w i in
-    ap₂ {C = List ℕ} (λ b bs. cond b (byte_in m x ∷ bs) bs) open_to (same_enables m r s i w es)
+    ap₂ {C = Bool} (λ a b. not (m.mm && (a && not (address_bit m x))) && (x.1 == 0 || b)) w i in
+    ap₂ {C = List ℕ} (λ b bs. if b then byte_in m x ∷ bs else bs) open_to (same_enables m r s i w es)
 
 seen_more : (e : EndsState) (listen : Bool) (l : Level) (ls : List Level)
     → seen_levels e listen (l ∷ ls) ≡ seen e listen l ∷ seen_levels (ends_clocked e listen l) listen ls
@@ -55,19 +55,19 @@ module _ (m : Mode) (t : Transmit) (q : Rate) where
 
   -- firmware reads what has just been let through
   read_entry : (r : Receive) (y : Entry) (p s a : List ℕ) → r.urxifg ≡ false → p ≡ a → (let_through m r y ≡ false → s ≡ a)
-      → cond (taken m r y).urxifg ((taken m r y).urxbuf ∷ p) s ≡ cond (let_through m r y) (byte_in m y ∷ a) a
+      → (if (taken m r y).urxifg then (taken m r y).urxbuf ∷ p else s) ≡ (if let_through m r y then byte_in m y ∷ a else a)
   read_entry r y p s a off loads skips = go (let_through m r y) refl
     where
-      go : (b : Bool) → let_through m r y ≡ b → cond (r.urxifg || b) (cond b (byte_in m y) r.urxbuf ∷ p) s ≡ cond b (byte_in m y ∷ a) a
-      go true is = ap (λ (f : Bool). cond (f || true) (byte_in m y ∷ p) s) off ∙ ap {B = List ℕ} (λ bs. byte_in m y ∷ bs) loads
-      go false is = ap (λ (f : Bool). cond (f || false) (r.urxbuf ∷ p) s) off ∙ skips is
+      go : (b : Bool) → let_through m r y ≡ b → (if r.urxifg || b then (if b then byte_in m y else r.urxbuf) ∷ p else s) ≡ (if b then byte_in m y ∷ a else a)
+      go true is = ap (λ (f : Bool). if f || true then byte_in m y ∷ p else s) off ∙ ap {B = List ℕ} (λ bs. byte_in m y ∷ bs) loads
+      go false is = ap (λ (f : Bool). if f || false then r.urxbuf ∷ p else s) off ∙ skips is
 
   -- one clock, from what holds of the clocks after it
   module _ (l : Level) (ls : List Level) (r : Receive) (v w : Bool) (e : EndsState) where
     read_more : r.urxifg ≡ false → ((s : Receive) → s.urxifg ≡ false → polled (chip s v w e) ls ≡ admitted m s (entries e ls)) → (es : List Entry) → length es ≤ 1
         → (let d : ChipState = chip (all_taken m r es) v w e in
-        cond d.receive.urxifg (d.receive.urxbuf ∷ polled (after_read d 0x76) ls) (polled d ls)) ≡ admitted m r (es ++ entries e ls)
-    read_more off on [] few = ap (λ (f : Bool). cond f (r.urxbuf ∷ polled (after_read (chip r v w e) 0x76) ls) (polled (chip r v w e) ls)) off ∙ on r off
+        (if d.receive.urxifg then d.receive.urxbuf ∷ polled (after_read d 0x76) ls else polled d ls)) ≡ admitted m r (es ++ entries e ls)
+    read_more off on [] few = ap (λ (f : Bool). if f then r.urxbuf ∷ polled (after_read (chip r v w e) 0x76) ls else polled (chip r v w e) ls) off ∙ on r off
     read_more off on (y ∷ []) few = read_entry r y _ _ (admitted m r (entries e ls)) off
         (on (cleared (taken m r y)) refl ∙ same_enables m (cleared (taken m r y)) r refl refl (entries e ls))
         (λ skipped. on (taken m r y) (ap₂ {C = Bool} (λ a b. a || b) off skipped) ∙ same_enables m (taken m r y) r refl refl (entries e ls))
@@ -82,7 +82,7 @@ module _ (m : Mode) (t : Transmit) (q : Rate) where
       ∙ sym (ap (admitted m r) (entries_more e l ls))
 
   -- an entry more, whose byte is loaded where it is let through
-  load_entry : (r out : Receive) (y : Entry) (a : List ℕ) → Loaded (taken m r y) out a → Loaded r out (cond (let_through m r y) (byte_in m y ∷ a) a)
+  load_entry : (r out : Receive) (y : Entry) (a : List ℕ) → Loaded (taken m r y) out a → Loaded r out (if let_through m r y then byte_in m y ∷ a else a)
   load_entry r out y a more = go (let_through m r y) more.buffer more.flag more.overrun
     where
       flags : (i : Bool) → (i || true) || not (empty a) ≡ i || true
@@ -94,8 +94,8 @@ module _ (m : Mode) (t : Transmit) (q : Rate) where
       overrun false true = refl
       overrun false false = refl
 
-      go : (b : Bool) → out.urxbuf ≡ last_of (cond b (byte_in m y) r.urxbuf) a → out.urxifg ≡ (r.urxifg || b) || not (empty a)
-          → out.oe ≡ (r.oe || (b && r.urxifg)) || overruns (r.urxifg || b) a → Loaded r out (cond b (byte_in m y ∷ a) a)
+      go : (b : Bool) → out.urxbuf ≡ last_of (if b then byte_in m y else r.urxbuf) a → out.urxifg ≡ (r.urxifg || b) || not (empty a)
+          → out.oe ≡ (r.oe || (b && r.urxifg)) || overruns (r.urxifg || b) a → Loaded r out (if b then byte_in m y ∷ a else a)
       go true buffer flag over = record { buffer = buffer; flag = flag ∙ flags r.urxifg; overrun = over ∙ overrun r.oe r.urxifg }
       go false buffer flag over = record {
         buffer = buffer;

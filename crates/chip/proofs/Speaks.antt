@@ -1,5 +1,5 @@
 -- The levels on UTXD are those of a bare sender.
-use Rattle.std.proofs.Common.{◌≡◌, ℕ, ◌^◌, ◌<◌, ◌≤◌, Bool, true, false, cond, ◌&&◌, ◌||◌, eqb, List, [], ◌∷◌, ◌++◌, length, Some, None, Ok, Err, Option, option_map, Result, sym, refl, ap, ◌∙◌, subst, ap₂}
+use Rattle.std.proofs.Common.{◌≡◌, ℕ, ◌^◌, ◌<◌, ◌≤◌, Bool, true, false, if◌then◌else◌, ◌&&◌, ◌||◌, ◌==◌, List, [], ◌∷◌, ◌++◌, length, Some, None, Ok, Err, Option, option_map, Result, sym, refl, ap, ◌∙◌, subst, ap₂}
 use Rattle.std.proofs.lemmas.Bool.{eqb-true}
 use Rattle.std.proofs.Math.Bool.{and-true}
 use Rattle.line.specs.declared.level.Level.{Level}
@@ -59,15 +59,15 @@ module _ (c : ChipState) (e : EndsState) (is : c.ends ≡ Some e) (ok : Sound c.
   -- what is shown, with the answer and the two tests of the address put in
   abbrev Goal : Result Unit Refusal → Bool → Type 0
   Goal x b7 =
-      let d : ChipState = cond (accepted x) (written c a v) c in
-      let ss : List Step = cond (b7 && accepted x) (loads ch ∷ []) [] ++ steps d xs in
+      let d : ChipState = if accepted x then written c a v else c in
+      let ss : List Step = (if b7 && accepted x then loads ch ∷ [] else []) ++ steps d xs in
       (on_utxd d xs ≡ said e.sender ss) × AllTaken e.sender ss
 
-  same_mode : eqb a 0x70 ≡ false → (written c a v).mode ≡ c.mode
+  same_mode : (a == 0x70) ≡ false → (written c a v).mode ≡ c.mode
   same_mode at0 = simp at0
 
   -- UTXBUF takes the byte
-  taken : (y : Unit {0}) → write_answer c a v ≡ Ok y → eqb a 0x70 ≡ false → eqb a 0x77 ≡ true → Goal (Ok y) true
+  taken : (y : Unit {0}) → write_answer c a v ≡ Ok y → (a == 0x70) ≡ false → (a == 0x77) ≡ true → Goal (Ok y) true
   taken y answer at0 at7 =
       let busy : (written c a v).utxifg ≡ false = simp (at0, at7, free) in
       let more = on (written c a v) (ends_loaded e ch) (simp (at0, at7, is)) (record {
@@ -97,7 +97,7 @@ module _ (c : ChipState) (e : EndsState) (is : c.ends ≡ Some e) (ok : Sound c.
       small : ch < 2 ^ width e.sender.format
       small = subst (λ (n : ℕ). ch < 2 ^ n) (sym ok.wide) (narrow c.mode c.transmit.txwake v)
 
-  go : (x : Result Unit Refusal) → write_answer c a v ≡ x → (b0 : Bool) → eqb a 0x70 ≡ b0 → (b7 : Bool) → eqb a 0x77 ≡ b7 → Goal x b7
+  go : (x : Result Unit Refusal) → write_answer c a v ≡ x → (b0 : Bool) → (a == 0x70) ≡ b0 → (b7 : Bool) → (a == 0x77) ≡ b7 → Goal x b7
   go (Err r) answer b0 at0 true at7 = on c e is ok
   go (Err r) answer b0 at0 false at7 = on c e is ok
   go (Ok y) answer true at0 b7 at7 = absurd (apart _ _ Closed refl answer (not_open c e is a v (eqb-true a 0x70 at0) (sym (ap (λ (b : Bool). b && has v 0x01) at0) ∙ off)))
@@ -110,7 +110,7 @@ module _ (c : ChipState) (e : EndsState) (is : c.ends ≡ Some e) (ok : Sound c.
   })
 
   pub write_speaks : Bare e.sender c (writes a v ∷ xs)
-  write_speaks = go (write_answer c a v) refl (eqb a 0x70) refl (eqb a 0x77) refl
+  write_speaks = go (write_answer c a v) refl (a == 0x70) refl (a == 0x77) refl
 
 pub speaks : (xs : List Act) → NoReset xs → (c : ChipState) (e : EndsState) → c.ends ≡ Some e → Sound c.mode c.utxifg e.sender → Bare e.sender c xs
 speaks [] nr c e is ok = (refl, tt)

@@ -1,9 +1,9 @@
 -- A byte that is stored is read back.
-use Rattle.std.proofs.Common.{◌≡◌, ℕ, ◌<◌, ◌≤◌, Bool, true, false, cond, not, ◌&&◌, ◌||◌, eqb, ◌⊎◌, is_some, Some, None, Ok, Err, Result, refl, ap, ◌∙◌, subst, inl, inr, arith}
+use Rattle.std.proofs.Common.{◌≡◌, ℕ, ◌<◌, ◌≤◌, Bool, true, false, if◌then◌else◌, not, ◌&&◌, ◌==◌, ◌⊎◌, is_some, Some, None, Ok, Result, refl, ap, ◌∙◌, subst, inl, inr, arith}
+use Rattle.std.proofs.Math.Bool.{and-false}
 use lib.Bits.{bit_and, bit_or}
 use Rattle.std.proofs.lemmas.Bool.{eqb-true, cases_lt, agree_below, agree_below_at}
 use Rattle.line.specs.declared.refusal.Refusal.{Refusal}
-use Rattle.line.specs.declared.refusal.Refusal.TheVariants.{Closed}
 use Rattle.ends.specs.Sender.{accepted}
 use Rattle.chip.specs.declared.transmit.Transmit.{Transmit}
 use Rattle.chip.specs.Bytes.{has, bit}
@@ -13,14 +13,14 @@ use Rattle.chip.specs.Chips.{ChipState, begun, released, write_answer, written, 
 use Rattle.chip.specs.Laws.{ReadBack}
 
 -- two numbers that go with each byte are the same, computed over all bytes
-of_all : (f g : ℕ → ℕ) → agree_below (λ k. eqb (f k) (g k)) (λ k. true) 256 ≡ true → (v : ℕ) → v < 256 → f v ≡ g v
-of_all f g all v small = eqb-true _ _ (agree_below_at (λ k. eqb (f k) (g k)) (λ k. true) 256 v all small)
+of_all : (f g : ℕ → ℕ) → agree_below (λ k. f k == g k) (λ k. true) 256 ≡ true → (v : ℕ) → v < 256 → f v ≡ g v
+of_all f g all v small = eqb-true _ _ (agree_below_at (λ k. f k == g k) (λ k. true) 256 v all small)
 
 mode_back : (v : ℕ) → v < 256 → mode_byte (mode_of v) (has v 0x01) ≡ v
 mode_back v small = of_all (λ k. mode_byte (mode_of k) (has k 0x01)) (λ k. k) refl v small
 
 transmit_back : (t : Transmit) (running txept : Bool) (v : ℕ) → v < 256
-    → transmit_byte (utctl_written t (not running) v) (txept && true) ≡ bit_or (bit_and v (cond running 0xfe 0xfa)) (bit txept 0x01)
+    → transmit_byte (utctl_written t (not running) v) (txept && true) ≡ bit_or (bit_and v (if running then 0xfe else 0xfa)) (bit txept 0x01)
 transmit_back t true true v small = of_all (λ k. transmit_byte (utctl_written t false k) true) (λ k. bit_or (bit_and k 0xfe) 0x01) refl v small
 transmit_back t true false v small = of_all (λ k. transmit_byte (utctl_written t false k) false) (λ k. bit_or (bit_and k 0xfe) 0) refl v small
 transmit_back t false true v small = of_all (λ k. transmit_byte (utctl_written t true k) true) (λ k. bit_or (bit_and k 0xfa) 0x01) refl v small
@@ -29,23 +29,19 @@ transmit_back t false false v small = of_all (λ k. transmit_byte (utctl_written
 module _ (c : ChipState) (v : ℕ) (small : v < 256) where
   -- what a register answers after a write that is not refused
   after : (a : ℕ) → write_answer c a v ≡ Ok tt → read_answer (after_write c a v) a ≡ read_answer (written c a v) a
-  after a answer = ap (λ (x : Result Unit Refusal). read_answer (cond (accepted x) (written c a v) c) a) answer
+  after a answer = ap (λ (x : Result Unit Refusal). read_answer (if accepted x then written c a v else c) a) answer
 
   uctl_back : write_answer c 0x70 v ≡ Ok tt → read_answer (after_write c 0x70 v) 0x70 ≡ Ok v
   uctl_back answer = after 0x70 answer ∙ ap {B = Result ℕ Refusal} (λ s. Ok (mode_byte (mode_of v) s)) (reset (has v 0x01)) ∙ ap {B = Result ℕ Refusal} (λ n. Ok n) (mode_back v small)
     where
-      reset : (b : Bool) → not (is_some (cond b None (Some (begun (mode_of v) c.rate)))) ≡ b
+      reset : (b : Bool) → not (is_some (if b then None else Some (begun (mode_of v) c.rate))) ≡ b
       reset true = refl
       reset false = refl
 
   utctl_open : write_answer c 0x71 v ≡ Ok tt
-  utctl_open = go (released c)
-    where
-      go : (b : Bool) → cond {A = Result Unit Refusal} ((b && false) || false) (Err Closed) (Ok tt) ≡ Ok tt
-      go true = refl
-      go false = refl
+  utctl_open = simp (and-false (released c))
 
-  utctl_back : read_answer (after_write c 0x71 v) 0x71 ≡ Ok (bit_or (bit_and v (cond (released c) 0xfe 0xfa)) (bit c.txept 0x01))
+  utctl_back : read_answer (after_write c 0x71 v) 0x71 ≡ Ok (bit_or (bit_and v (if released c then 0xfe else 0xfa)) (bit c.txept 0x01))
   utctl_back = after 0x71 utctl_open ∙ ap {B = Result ℕ Refusal} (λ n. Ok n) (transmit_back c.transmit (released c) c.txept v small)
 
   rate_back : (a : ℕ) → 0x73 ≤ a → a ≤ 0x75 → write_answer c a v ≡ Ok tt → read_answer (after_write c a v) a ≡ Ok v

@@ -1,5 +1,5 @@
 -- What a write of UTXBUF does to the sender.
-use Rattle.std.proofs.Common.{◌≡◌, ℕ, ◌+◌, ◌%◌, ◌^◌, ◌<◌, ◌≤◌, Bool, true, false, cond, ◌&&◌, eqb, leb, List, [], ◌∷◌, ◌++◌, length, Ok, Err, Result, sym, refl, ap, ◌∙◌, subst, arith}
+use Rattle.std.proofs.Common.{◌≡◌, ℕ, ◌+◌, ◌%◌, ◌^◌, ◌<◌, ◌≤◌, Bool, true, false, if◌then◌else◌, ◌&&◌, ◌==◌, nat_le, List, [], ◌∷◌, ◌++◌, length, Ok, Err, Result, sym, refl, ap, ◌∙◌, subst, arith}
 use Rattle.std.proofs.lemmas.Bool.{lt-leb}
 use Rattle.line.specs.declared.refusal.Refusal.{Refusal}
 use Rattle.line.specs.declared.refusal.Refusal.TheVariants.{TooWide, Full}
@@ -13,7 +13,7 @@ use Rattle.chip.specs.Modes.{format_of, character_of}
 pub narrow : (m : Mode) (wake : Bool) (v : ℕ) → character_of m wake v < 2 ^ width (format_of m)
 narrow m wake v = go m.chars m.mm wake
   where
-    go : (eight address wake : Bool) → v % cond eight 256 128 + cond (address && wake) (cond eight 256 128) 0 < 2 ^ (data_count (cond eight Eight Seven) + cond address 1 0)
+    go : (eight address wake : Bool) → v % (if eight then 256 else 128) + (if address && wake then if eight then 256 else 128 else 0) < 2 ^ (data_count (if eight then Eight else Seven) + (if address then 1 else 0))
     go true true true = omega arith
     go true true false = omega arith
     go true false wake = omega arith
@@ -26,12 +26,12 @@ module _ (s : SenderState) (c : ℕ) (small : c < 2 ^ width s.format) (room : em
   pub load_taken : load_answer s c ≡ Ok tt
   load_taken = go s.waiting room
     where
-      go : (w : List ℕ) → empty w ≡ true → cond {A = Result Unit Refusal} (leb (2 ^ width s.format) c) (Err TooWide) (cond (eqb (length w) s.capacity) (Err Full) (Ok tt)) ≡ Ok tt
+      go : (w : List ℕ) → empty w ≡ true → (if nat_le (2 ^ width s.format) c then Err TooWide else if length w == s.capacity then Err Full else Ok tt) ≡ Ok (tt {0})
       go [] none = simp (one, lt-leb (2 ^ width s.format) c small)
       go (x ∷ w) none = cc
 
   then_holds : after_load s c ≡ sender_holding s s.left (s.waiting ++ (c ∷ []))
-  then_holds = ap (λ (x : Result Unit Refusal). cond (accepted x) (sender_holding s s.left (s.waiting ++ (c ∷ []))) s) load_taken
+  then_holds = ap (λ (x : Result Unit Refusal). (if accepted x then sender_holding s s.left (s.waiting ++ (c ∷ [])) else s)) load_taken
 
   pub waits_then : empty (after_load s c).waiting ≡ false
   waits_then = ap (λ (x : SenderState). empty x.waiting) then_holds ∙ joined s.waiting
