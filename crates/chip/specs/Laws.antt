@@ -1,6 +1,7 @@
 -- Laws of the chip, over whole runs of acts and clocks.
 use Rattle.std.specs.Prelude.{◌≡◌, ℕ, ◌≤◌, Bool, true, false, if◌then◌else◌, not, ◌||◌, List, [], ◌∷◌, length, Some, Ok, MatchBool, MatchResult, bit_and, bit_or}
 use Rattle.line.specs.declared.level.Level.{Level}
+use Rattle.line.specs.declared.level.Level.TheVariants.{Mark}
 use Rattle.ends.specs.Sender.{empty}
 use Rattle.ends.specs.Receiver.{Entry}
 use Rattle.ends.specs.Runs.{spoken, taken_down}
@@ -9,7 +10,7 @@ use Rattle.chip.specs.declared.receive.Receive.{Receive}
 use Rattle.chip.specs.Bytes.{has, bit}
 use Rattle.chip.specs.Receiving.{let_through, byte_in}
 use Rattle.chip.specs.Pairs.{EndsState}
-use Rattle.chip.specs.Chips.{ChipState, released, waiting, left, write_answer, after_write, read_answer, after_read, after_clock}
+use Rattle.chip.specs.Chips.{ChipState, released, waiting, left, write_answer, after_write, read_answer, after_read, utxd, after_clock}
 use Rattle.chip.specs.Acts.{Act, NoReset, on_utxd, said, AllTaken, steps}
 
 -- no byte waits to be sent
@@ -26,6 +27,31 @@ pub record Tells (c : ChipState) : Type 0 where
   pub utxifg : MatchBool c.utxifg (NoneWaits c) (NoneWaits c → ⊥)
   pub txept : MatchResult (read_answer c 0x71) (λ b. MatchBool (has b 0x01) (NothingLeft c) (NothingLeft c → ⊥)) (λ e. ⊥)
   pub rxerr : MatchResult (read_answer c 0x72) (λ b. has b 0x01 ≡ has b 0x80 || (has b 0x40 || (has b 0x20 || has b 0x10))) (λ e. ⊥)
+
+-- In reset no flag and no wake bit stands, whatever has been written; nothing is being sent, and a clock answers mark and changes nothing.
+pub record Rests (c : ChipState) : Type 0 where
+  pub utxifg : c.utxifg ≡ true
+  pub txept : c.txept ≡ true
+  pub urxifg : c.receive.urxifg ≡ false
+  pub fe : c.receive.fe ≡ false
+  pub pe : c.receive.pe ≡ false
+  pub oe : c.receive.oe ≡ false
+  pub brk : c.receive.brk ≡ false
+  pub rxwake : c.receive.rxwake ≡ false
+  pub txwake : c.transmit.txwake ≡ false
+  pub level : utxd c ≡ Mark
+  pub clock : (l : Level) → after_clock c l ≡ c
+
+-- At power-up UCTL and UTCTL are read as 01h, and every other register as 0.
+pub record ReadAtPowerUp (c : ChipState) : Type 0 where
+  pub uctl : read_answer c 0x70 ≡ Ok 0x01
+  pub utctl : read_answer c 0x71 ≡ Ok 0x01
+  pub urctl : read_answer c 0x72 ≡ Ok 0
+  pub umctl : read_answer c 0x73 ≡ Ok 0
+  pub ubr0 : read_answer c 0x74 ≡ Ok 0
+  pub ubr1 : read_answer c 0x75 ≡ Ok 0
+  pub urxbuf : read_answer c 0x76 ≡ Ok 0
+  pub utxbuf : read_answer c 0x77 ≡ Ok 0
 
 -- A byte that is written and not refused is read back, in UTCTL but for TXEPT and, in reset, TXWake.
 pub record ReadBack (c : ChipState) (v : ℕ) : Type 0 where

@@ -1,9 +1,10 @@
 // The chip: its registers and its two ends, how the registers are written and read, and how it is clocked.
-ghost use Rattle.std.specs.Prelude.{◌≡◌};
+ghost use Rattle.std.specs.Prelude.{◌≡◌, false, None};
 ghost use Rattle.std.specs.Option.{ForSome};
 ghost use Rattle.line.specs.Frames.{width};
 ghost use Rattle.ends.specs.BareSender.{meant};
 ghost use Rattle.chip.specs.Modes.{format_of};
+ghost use Rattle.chip.specs.Receiving.{cleared};
 
 use super::address::*;
 use super::bits::has;
@@ -34,21 +35,24 @@ pub struct Chip {
     pub(crate) rate: Rate,
     // none while held in reset
     pub(crate) ends: Option<Ends>,
+    // in reset every flag is clear, and both wake bits
+    ghost clear: { ends ≡ None → (receive ≡ cleared receive) × (transmit.txwake ≡ false) },
     // the sender takes what is written in this mode
     ghost wide: { ForSome ends (λ e. width (meant e.sender).format ≡ width (format_of mode)) },
 }
 
 impl Chip {
-    ghost use Rattle.std.specs.Prelude.{◌≡◌, ℕ, ◌<◌, true, not, if◌then◌else◌, Some, None, Ok, Err, nat_lt};
+    ghost use Rattle.std.specs.Prelude.{◌≡◌, ℕ, ◌<◌, true, false, not, if◌then◌else◌, Some, None, Ok, Err, nat_lt};
     ghost use Rattle.line.specs.declared.refusal.Refusal.TheVariants.{OutOfRange};
     ghost use Rattle.chip.specs.Transmitting.{unwoken};
     ghost use Rattle.chip.specs.Receiving.{cleared};
     ghost use Rattle.chip.specs.Chips.{ChipState, chip_of, holding, released, power_up, divider, begun, write_answer, after_write, read_answer, after_read, utxd, after_clock};
-    ghost use Rattle.chip.specs.Laws.{Tells, ReadBack, Speaks, Listens};
+    ghost use Rattle.chip.specs.Laws.{Tells, Rests, ReadAtPowerUp, ReadBack, Speaks, Listens};
 
     // A chip just after power-up, held in reset.
     pub fn power_up() -> Chip
         ensures state { chip_of result ≡ power_up }
+        ensures read { ReadAtPowerUp (chip_of result) }
         ensures stored { (c : ChipState) (v : ℕ) → v < 256 → ReadBack c v }
     {
         Chip {
@@ -83,6 +87,7 @@ impl Chip {
         ensures urxifg { result.urxifg ≡ (chip_of self.now).receive.urxifg }
         ensures utxifg { result.utxifg ≡ (chip_of self.now).utxifg }
         ensures tells { Tells (chip_of self.now) }
+        ensures rests { released (chip_of self.now) ≡ false → Rests (chip_of self.now) }
     {
         Interrupts {
             urxifg: self.receive.urxifg,

@@ -6,10 +6,10 @@ use Rattle.chip.proofs.Receives.{receives}
 use Rattle.chip.proofs.Clocks.{still_wide, clocked_chip}
 use Rattle.chip.proofs.chip.Chip.clock.Goals as goal
 
-pub invariant_of-self-2 : goal.invariant_of-self-2
-invariant_of-self-2 c =
+pub invariant_of-self-2-clause-wide : goal.invariant_of-self-2-clause-wide
+invariant_of-self-2-clause-wide c =
     let k = c.args.self.now in
-    record { wide = still_wide k.mode k.transmit k.receive k.rate c.args.level k.ends c.in-Some.ends c.clock-utxd.new.self c.in-Some.is c.clock-utxd.ensures.state k.wide }
+    still_wide k.mode k.transmit k.receive k.rate c.args.level k.ends c.in-Some.ends c.clock-utxd.new.self c.in-Some.is c.clock-utxd.ensures.state k.wide
 
 pub returns-clause-state : goal.returns-clause-state
 returns-clause-state c =
