@@ -1,5 +1,6 @@
 -- What is loaded into URXBUF is what a bare receiver takes down.
-use Rattle.std.proofs.Common.{◌≡◌, ℕ, ◌≤◌, Bool, true, false, if◌then◌else◌, not, ◌&&◌, ◌||◌, ◌==◌, List, [], ◌∷◌, ◌++◌, length, Some, Option, sym, refl, ap, ◌∙◌, subst, ap₂, arith}
+use Rattle.std.proofs.Common.{◌≡◌, ℕ, ◌≤◌, Bool, true, false, if◌then◌else◌, not, ◌&&◌, ◌||◌, List, [], ◌∷◌, ◌++◌, length, map, filter, Some, Option, sym, refl, ap, ◌∙◌, subst, ap₂, arith}
+use Rattle.std.specs.List.{list_any}
 use Rattle.std.proofs.Math.Bool.{or-false}
 use Rattle.line.specs.declared.level.Level.{Level}
 use Rattle.ends.specs.Sender.{empty, after_send}
@@ -10,18 +11,11 @@ use Rattle.chip.specs.declared.mode.Mode.{Mode}
 use Rattle.chip.specs.declared.transmit.Transmit.{Transmit}
 use Rattle.chip.specs.declared.receive.Receive.{Receive}
 use Rattle.chip.specs.declared.rate.Rate.{Rate}
-use Rattle.chip.specs.Receiving.{address_bit, let_through, byte_in, taken, all_taken, cleared}
+use Rattle.chip.specs.Bytes.{has}
+use Rattle.chip.specs.Receiving.{address_bit, noticed, let_through, byte_in, taken, all_taken, cleared}
 use Rattle.chip.specs.Pairs.{EndsState, seen, arrivals, ends_clocked}
 use Rattle.chip.specs.Chips.{ChipState, leaves, done, after_read}
-use Rattle.chip.specs.Laws.{seen_levels, admitted, polled, after_clocks, last_of, overruns, Loaded, Receives}
-
--- only the enables decide what is let through
-same_enables : (m : Mode) (r s : Receive) → r.urxeie ≡ s.urxeie → r.urxwie ≡ s.urxwie → (es : List Entry) → admitted m r es ≡ admitted m s es
-same_enables m r s i w [] = refl
-same_enables m r s i w (x ∷ es) =
-    let open_to : let_through m r x ≡ let_through m s x =
-    ap₂ {C = Bool} (λ a b. not (m.mm && (a && not (address_bit m x))) && (x.1 == 0 || b)) w i in
-    ap₂ {C = List ℕ} (λ b bs. if b then byte_in m x ∷ bs else bs) open_to (same_enables m r s i w es)
+use Rattle.chip.specs.Laws.{seen_levels, admitted, polled, after_clocks, last_of, overruns, Loaded, wake_after, Flagged, Receives}
 
 seen_more : (e : EndsState) (listen : Bool) (l : Level) (ls : List Level)
     → seen_levels e listen (l ∷ ls) ≡ seen e listen l ∷ seen_levels (ends_clocked e listen l) listen ls
@@ -54,11 +48,11 @@ module _ (m : Mode) (t : Transmit) (q : Rate) where
       ∙ ap {B = List Entry} (λ es. (hears e.receiver now_seen).arrived ++ es) (sym (unread_apart r (without_oldest r.unread) (seen_levels (next e l) m.listen ls)))
 
   -- firmware reads what has just been let through
-  read_entry : (r : Receive) (y : Entry) (p s a : List ℕ) → r.urxifg ≡ false → p ≡ a → (let_through m r y ≡ false → s ≡ a)
-      → (if (taken m r y).urxifg then (taken m r y).urxbuf ∷ p else s) ≡ (if let_through m r y then byte_in m y ∷ a else a)
-  read_entry r y p s a off loads skips = go (let_through m r y) refl
+  read_entry : (r : Receive) (y : Entry) (fs : List Entry) (p s : List ℕ) → r.urxifg ≡ false → p ≡ map (byte_in m) fs → (let_through m r y ≡ false → s ≡ map (byte_in m) fs)
+      → (if (taken m r y).urxifg then (taken m r y).urxbuf ∷ p else s) ≡ map (byte_in m) (if let_through m r y then y ∷ fs else fs)
+  read_entry r y fs p s off loads skips = go (let_through m r y) refl
     where
-      go : (b : Bool) → let_through m r y ≡ b → (if r.urxifg || b then (if b then byte_in m y else r.urxbuf) ∷ p else s) ≡ (if b then byte_in m y ∷ a else a)
+      go : (b : Bool) → let_through m r y ≡ b → (if r.urxifg || b then (if b then byte_in m y else r.urxbuf) ∷ p else s) ≡ map (byte_in m) (if b then y ∷ fs else fs)
       go true is = ap (λ (f : Bool). if f || true then byte_in m y ∷ p else s) off ∙ ap {B = List ℕ} (λ bs. byte_in m y ∷ bs) loads
       go false is = ap (λ (f : Bool). if f || false then r.urxbuf ∷ p else s) off ∙ skips is
 
@@ -68,9 +62,8 @@ module _ (m : Mode) (t : Transmit) (q : Rate) where
         → (let d : ChipState = chip (all_taken m r es) v w e in
         (if d.receive.urxifg then d.receive.urxbuf ∷ polled (after_read d 0x76) ls else polled d ls)) ≡ admitted m r (es ++ entries e ls)
     read_more off on [] few = ap (λ (f : Bool). if f then r.urxbuf ∷ polled (after_read (chip r v w e) 0x76) ls else polled (chip r v w e) ls) off ∙ on r off
-    read_more off on (y ∷ []) few = read_entry r y _ _ (admitted m r (entries e ls)) off
-        (on (cleared (taken m r y)) refl ∙ same_enables m (cleared (taken m r y)) r refl refl (entries e ls))
-        (λ skipped. on (taken m r y) (ap₂ {C = Bool} (λ a b. a || b) off skipped) ∙ same_enables m (taken m r y) r refl refl (entries e ls))
+    read_more off on (y ∷ []) few = read_entry r y (filter (let_through m r) (entries e ls)) _ _ off (on (cleared (taken m r y)) refl)
+        (λ skipped. on (taken m r y) (ap₂ {C = Bool} (λ a b. a || b) off skipped))
     read_more off on (y ∷ (z ∷ es)) few = absurd (omega arith)
 
   pub read_all : (ls : List Level) (r : Receive) (u x : Bool) (e : EndsState) → r.urxifg ≡ false → polled (chip r u x e) ls ≡ admitted m r (entries e ls)
@@ -81,10 +74,25 @@ module _ (m : Mode) (t : Transmit) (q : Rate) where
       read_more l ls r v w (next e l) off (λ s ready. read_all ls s v w (next e l) ready) (arrivals e m.listen l) (one_at_most e.receiver (seen e m.listen l))
       ∙ sym (ap (admitted m r) (entries_more e l ls))
 
+  -- what all the clocks do to the receive side
+  taken_then : (r : Receive) (es fs : List Entry) → all_taken m r (es ++ fs) ≡ all_taken m (all_taken m r es) fs
+  taken_then r [] fs = refl
+  taken_then r (y ∷ es) fs = taken_then (taken m r y) es fs
+
+  pub clocks_take : (ls : List Level) (r : Receive) (u x : Bool) (e : EndsState) → (after_clocks (chip r u x e) ls).receive ≡ all_taken m r (entries e ls)
+  clocks_take [] r u x e = sym (ap (all_taken m r) (entries_none e))
+  clocks_take (l ∷ ls) r u x e =
+      let es : List Entry = arrivals e m.listen l in
+      clocks_take ls (all_taken m r es) (u || leaves e.sender) (x || done (after_send e.sender)) (next e l)
+      ∙ sym (taken_then r es (entries (next e l) ls)) ∙ sym (ap (all_taken m r) (entries_more e l ls))
+
   -- an entry more, whose byte is loaded where it is let through
-  load_entry : (r out : Receive) (y : Entry) (a : List ℕ) → Loaded (taken m r y) out a → Loaded r out (if let_through m r y then byte_in m y ∷ a else a)
-  load_entry r out y a more = go (let_through m r y) more.buffer more.flag more.overrun
+  load_entry : (r out : Receive) (y : Entry) (fs : List Entry) → Loaded (taken m r y) out (map (byte_in m) fs) → Loaded r out (map (byte_in m) (if let_through m r y then y ∷ fs else fs))
+  load_entry r out y fs more = go (let_through m r y) more.buffer more.flag more.overrun
     where
+      a : List ℕ
+      a = map (byte_in m) fs
+
       flags : (i : Bool) → (i || true) || not (empty a) ≡ i || true
       flags true = refl
       flags false = refl
@@ -95,7 +103,7 @@ module _ (m : Mode) (t : Transmit) (q : Rate) where
       overrun false false = refl
 
       go : (b : Bool) → out.urxbuf ≡ last_of (if b then byte_in m y else r.urxbuf) a → out.urxifg ≡ (r.urxifg || b) || not (empty a)
-          → out.oe ≡ (r.oe || (b && r.urxifg)) || overruns (r.urxifg || b) a → Loaded r out (if b then byte_in m y ∷ a else a)
+          → out.oe ≡ (r.oe || (b && r.urxifg)) || overruns (r.urxifg || b) a → Loaded r out (map (byte_in m) (if b then y ∷ fs else fs))
       go true buffer flag over = record { buffer = buffer; flag = flag ∙ flags r.urxifg; overrun = over ∙ overrun r.oe r.urxifg }
       go false buffer flag over = record {
         buffer = buffer;
@@ -103,22 +111,32 @@ module _ (m : Mode) (t : Transmit) (q : Rate) where
         overrun = over ∙ ap₂ {C = Bool} (λ o i. o || overruns i a) (or-false r.oe) (or-false r.urxifg);
       }
 
-  load_more : (r out : Receive) (rest : List Entry) (es : List Entry) → length es ≤ 1 → Loaded (all_taken m r es) out (admitted m (all_taken m r es) rest)
-      → Loaded r out (admitted m r (es ++ rest))
-  load_more r out rest [] few more = more
-  load_more r out rest (y ∷ []) few more =
-      load_entry r out y (admitted m r rest) (subst (λ (a : List ℕ). Loaded (taken m r y) out a) (same_enables m (taken m r y) r refl refl rest) more)
-  load_more r out rest (y ∷ (z ∷ es)) few more = absurd (omega arith)
+  pub load_all : (r : Receive) (es : List Entry) → Loaded r (all_taken m r es) (admitted m r es)
+  load_all r [] = record { buffer = refl; flag = sym (or-false r.urxifg); overrun = sym (or-false r.oe) }
+  load_all r (y ∷ es) = load_entry r (all_taken m (taken m r y) es) y (filter (let_through m r) es) (load_all (taken m r y) es)
 
-  pub load_all : (ls : List Level) (r : Receive) (u x : Bool) (e : EndsState) → Loaded r (after_clocks (chip r u x e) ls).receive (admitted m r (entries e ls))
-  load_all [] r u x e =
-      subst (λ (es : List Entry). Loaded r r (admitted m r es)) (sym (entries_none e)) (record { buffer = refl; flag = sym (or-false r.urxifg); overrun = sym (or-false r.oe) })
-  load_all (l ∷ ls) r u x e =
-      let v : Bool = u || leaves e.sender in
-      let w : Bool = x || done (after_send e.sender) in
-      let es : List Entry = arrivals e m.listen l in
-      subst (λ (fs : List Entry). Loaded r (after_clocks (chip (all_taken m r es) v w (next e l)) ls).receive (admitted m r fs)) (sym (entries_more e l ls))
-      (load_more r _ (entries (next e l) ls) es (one_at_most e.receiver (seen e m.listen l)) (load_all ls (all_taken m r es) v w (next e l)))
+  -- an entry more, whose flags stand where it has an effect
+  flag_entry : (flag : ℕ) (y : Entry) (fs : List Entry) (before b : Bool)
+      → (before || (b && has y.1 flag)) || list_any (λ x. has x.1 flag) fs ≡ before || list_any (λ x. has x.1 flag) (if b then y ∷ fs else fs)
+  flag_entry flag y fs true b = refl
+  flag_entry flag y fs false true = refl
+  flag_entry flag y fs false false = refl
+
+  wake_entry : (y : Entry) (fs : List Entry) (before b : Bool) → wake_after m (if b && m.mm then address_bit m y else before) fs ≡ wake_after m before (if b then y ∷ fs else fs)
+  wake_entry y fs before true = refl
+  wake_entry y fs before false = refl
+
+  pub flag_all : (r : Receive) (es : List Entry) → Flagged m r (all_taken m r es) es
+  flag_all r [] = record { fe = sym (or-false r.fe); pe = sym (or-false r.pe); brk = sym (or-false r.brk); rxwake = refl }
+  flag_all r (y ∷ es) =
+      let more = flag_all (taken m r y) es in
+      let has_effect : List Entry = filter (noticed m r) es in
+      record {
+        fe = more.fe ∙ flag_entry 4 y has_effect r.fe (noticed m r y);
+        pe = more.pe ∙ flag_entry 2 y has_effect r.pe (noticed m r y);
+        brk = more.brk ∙ flag_entry 8 y has_effect r.brk (noticed m r y);
+        rxwake = more.rxwake ∙ wake_entry y (filter (let_through m r) es) r.rxwake (let_through m r y);
+      }
 
 pub receives : (c : ChipState) (e : EndsState) → c.ends ≡ Some e → (ls : List Level) → Receives c e ls
 receives c e is ls =
@@ -131,7 +149,10 @@ receives c e is ls =
       txept = c.txept;
       ends = o;
     } in
+    let es : List Entry = entries c.mode c.transmit c.rate e ls in
+    let all : (after_clocks (whole (Some e)) ls).receive ≡ all_taken c.mode c.receive es = clocks_take c.mode c.transmit c.rate ls c.receive c.utxifg c.txept e in
     subst (λ (o : Option EndsState). Receives (whole o) e ls) (sym is) (record {
       read = λ off. read_all c.mode c.transmit c.rate ls c.receive c.utxifg c.txept e off;
-      unread = load_all c.mode c.transmit c.rate ls c.receive c.utxifg c.txept e;
+      unread = subst (λ (r : Receive). Loaded c.receive r (admitted c.mode c.receive es)) (sym all) (load_all c.mode c.transmit c.rate c.receive es);
+      flags = subst (λ (r : Receive). Flagged c.mode c.receive r es) (sym all) (flag_all c.mode c.transmit c.rate c.receive es);
     })

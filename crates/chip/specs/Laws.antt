@@ -1,5 +1,6 @@
 -- Laws of the chip, over whole runs of acts and clocks.
-use Rattle.std.specs.Prelude.{◌≡◌, ℕ, ◌≤◌, Bool, true, false, if◌then◌else◌, not, ◌||◌, List, [], ◌∷◌, length, Some, Ok, MatchBool, MatchResult, bit_and, bit_or}
+use Rattle.std.specs.Prelude.{◌≡◌, ℕ, ◌≤◌, Bool, true, false, if◌then◌else◌, not, ◌||◌, List, [], ◌∷◌, length, map, filter, Some, Ok, MatchBool, MatchResult, bit_and, bit_or}
+use Rattle.std.specs.List.{list_any}
 use Rattle.line.specs.declared.level.Level.{Level}
 use Rattle.line.specs.declared.level.Level.TheVariants.{Mark}
 use Rattle.ends.specs.Sender.{empty}
@@ -8,7 +9,7 @@ use Rattle.ends.specs.Runs.{spoken, taken_down}
 use Rattle.chip.specs.declared.mode.Mode.{Mode}
 use Rattle.chip.specs.declared.receive.Receive.{Receive}
 use Rattle.chip.specs.Bytes.{has, bit}
-use Rattle.chip.specs.Receiving.{let_through, byte_in}
+use Rattle.chip.specs.Receiving.{noticed, let_through, byte_in, address_bit}
 use Rattle.chip.specs.Pairs.{EndsState}
 use Rattle.chip.specs.Chips.{ChipState, released, waiting, left, write_answer, after_write, read_answer, after_read, utxd, after_clock}
 use Rattle.chip.specs.Acts.{Act, NoReset, on_utxd, said, AllTaken, steps}
@@ -71,8 +72,7 @@ seen_levels e listen ls = if listen then spoken e.sender (length ls) else ls
 
 -- the bytes of the entries that the enables let through
 abbrev pub admitted : Mode → Receive → List Entry → List ℕ
-admitted m r [] = []
-admitted m r (x ∷ es) = if let_through m r x then byte_in m x ∷ admitted m r es else admitted m r es
+admitted m r es = map (byte_in m) (filter (let_through m r) es)
 
 -- what firmware reads that looks at URXIFG after each clock, and reads URXBUF where it is 1
 abbrev pub polled : ChipState → List Level → List ℕ
@@ -100,11 +100,29 @@ pub record Loaded (before after : Receive) (bytes : List ℕ) : Type 0 where
   pub flag : after.urxifg ≡ before.urxifg || not (empty bytes)
   pub overrun : after.oe ≡ before.oe || overruns before.urxifg bytes
 
+-- one of the entries that have an effect has this flag
+abbrev pub flagged : Mode → Receive → ℕ → List Entry → Bool
+flagged m r flag es = list_any (λ x. has x.1 flag) (filter (noticed m r) es)
+
+-- RXWake after these entries have been loaded: where characters have an address bit, that of the last one
+abbrev pub wake_after : Mode → Bool → List Entry → Bool
+wake_after m wake [] = wake
+wake_after m wake (x ∷ es) = wake_after m (if m.mm then address_bit m x else wake) es
+
+-- what becomes of FE, PE, BRK and RXWake when these entries arrive and nothing is read or written
+pub record Flagged (m : Mode) (before after : Receive) (es : List Entry) : Type 0 where
+  pub fe : after.fe ≡ before.fe || flagged m before 4 es
+  pub pe : after.pe ≡ before.pe || flagged m before 2 es
+  pub brk : after.brk ≡ before.brk || flagged m before 8 es
+  pub rxwake : after.rxwake ≡ wake_after m before.rxwake (filter (let_through m before) es)
+
 -- Over any levels, from a release to the next reset, what is loaded into URXBUF is exactly the entries that a bare receiver takes down and the enables let through, in order, each
--- once: firmware that reads as they come reads these, and where it does not, the last one stands.
+-- once: firmware that reads as they come reads these, and where it does not, the last one stands. FE, PE and BRK tell of every entry that has
+-- an effect, RXWake of the last one loaded.
 pub record Receives (c : ChipState) (e : EndsState) (ls : List Level) : Type 0 where
   pub read : c.receive.urxifg ≡ false → polled c ls ≡ admitted c.mode c.receive (taken_down e.receiver (seen_levels e c.mode.listen ls))
   pub unread : Loaded c.receive (after_clocks c ls).receive (admitted c.mode c.receive (taken_down e.receiver (seen_levels e c.mode.listen ls)))
+  pub flags : Flagged c.mode c.receive (after_clocks c ls).receive (taken_down e.receiver (seen_levels e c.mode.listen ls))
 
 abbrev pub Listens : ChipState → Type 0
 Listens c = (e : EndsState) → c.ends ≡ Some e → (ls : List Level) → Receives c e ls
