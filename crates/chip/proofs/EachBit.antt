@@ -2,7 +2,9 @@
 use Rattle.std.proofs.Common.{◌≡◌, ℕ, zero, suc, Bool, true, false, ◌&&◌, ◌==◌, List, [], ◌∷◌, length, filter, fold, bit_or, slice_index_or, refl, ap, ◌∙◌}
 use Rattle.std.specs.List.{zip}
 use Rattle.std.proofs.lemmas.Bool.{eqb-true, and_parts}
-use Rattle.chip.specs.Bytes.{byte}
+use Rattle.std.proofs.Math.Bool.{beq}
+use Rattle.std.specs.Cmp.{booleans_Decides}
+use Rattle.chip.specs.Bytes.{has, byte}
 
 -- a test holds of every list of so many bits
 abbrev pub holds_of_all : ℕ → (List Bool → Bool) → Bool
@@ -32,3 +34,8 @@ all_same = refl
 
 pub joined_byte : (bs : List Bool) → length bs ≡ 8 → joined bs ≡ listed bs
 joined_byte bs long = eqb-true _ _ (holds_of bs same (ap (λ (n : ℕ). holds_of_all n same) long ∙ all_same))
+
+-- a bit of a byte is the one that was put there
+pub has_bit : (k mask : ℕ) (bs : List Bool) → holds_of_all (length bs) (λ xs. beq (has (listed xs) mask) (slice_index_or xs k false)) ≡ true
+    → has (listed bs) mask ≡ slice_index_or bs k false
+has_bit k mask bs all = (booleans_Decides _ _).0 (holds_of bs (λ xs. beq (has (listed xs) mask) (slice_index_or xs k false)) all)

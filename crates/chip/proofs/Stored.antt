@@ -1,5 +1,5 @@
 -- A byte that is stored is read back.
-use Rattle.std.proofs.Common.{◌≡◌, ℕ, ◌<◌, ◌≤◌, Bool, true, false, if◌then◌else◌, not, ◌&&◌, ◌==◌, ◌⊎◌, is_some, Some, None, Ok, Result, refl, ap, ◌∙◌, subst, inl, inr, arith}
+use Rattle.std.proofs.Common.{◌≡◌, ℕ, ◌<◌, ◌≤◌, Bool, true, false, if◌then◌else◌, not, ◌&&◌, ◌==◌, ◌⊎◌, is_some, List, [], ◌∷◌, MatchResult, sym, Some, None, Ok, Result, refl, ap, ◌∙◌, subst, inl, inr, arith}
 use Rattle.std.proofs.Math.Bool.{and-false}
 use lib.Bits.{bit_and, bit_or}
 use Rattle.std.proofs.lemmas.Bool.{eqb-true, cases_lt, agree_below, agree_below_at}
@@ -9,8 +9,11 @@ use Rattle.chip.specs.declared.transmit.Transmit.{Transmit}
 use Rattle.chip.specs.Bytes.{has, bit}
 use Rattle.chip.specs.Modes.{mode_of, mode_byte}
 use Rattle.chip.specs.Transmitting.{transmit_byte, utctl_written}
+use Rattle.chip.specs.declared.receive.Receive.{Receive}
+use Rattle.chip.specs.Receiving.{any_error, receive_byte, urctl_written}
 use Rattle.chip.specs.Chips.{ChipState, begun, released, write_answer, written, after_write, read_answer}
-use Rattle.chip.specs.Laws.{ReadBack}
+use Rattle.chip.specs.Laws.{FlagsWritten, ReadBack}
+use Rattle.chip.proofs.EachBit.{has_bit}
 
 -- two numbers that go with each byte are the same, computed over all bytes
 of_all : (f g : ℕ → ℕ) → agree_below (λ k. f k == g k) (λ k. true) 256 ≡ true → (v : ℕ) → v < 256 → f v ≡ g v
@@ -52,5 +55,24 @@ module _ (c : ChipState) (v : ℕ) (small : v < 256) where
       go (inr x) (inl y) = subst (λ (n : ℕ). read_answer (written c n v) n ≡ Ok v) (let is : 0x74 ≡ a = omega arith in is) refl
       go (inr x) (inr y) = subst (λ (n : ℕ). read_answer (written c n v) n ≡ Ok v) (let is : 0x75 ≡ a = omega arith in is) refl
 
+  urctl_open : write_answer c 0x72 v ≡ Ok tt
+  urctl_open = simp (and-false (released c))
+
+  urctl_back : MatchResult (read_answer (after_write c 0x72 v) 0x72) (λ after. FlagsWritten (receive_byte c.receive) v after) (λ e. ⊥)
+  urctl_back =
+      let r : Receive = c.receive in
+      let w : Receive = urctl_written r v in
+      let old : List Bool = r.fe ∷ r.pe ∷ r.oe ∷ r.brk ∷ r.urxeie ∷ r.urxwie ∷ r.rxwake ∷ any_error r ∷ [] in
+      let new : List Bool = w.fe ∷ w.pe ∷ w.oe ∷ w.brk ∷ w.urxeie ∷ w.urxwie ∷ w.rxwake ∷ any_error w ∷ [] in
+      subst (λ (x : Result ℕ Refusal). MatchResult x (λ b. FlagsWritten (receive_byte r) v b) (λ e. ⊥)) (sym (after 0x72 urctl_open)) (record {
+        fe = has_bit 0 0x80 new refl ∙ ap (λ (b : Bool). b && has v 0x80) (sym (has_bit 0 0x80 old refl));
+        pe = has_bit 1 0x40 new refl ∙ ap (λ (b : Bool). b && has v 0x40) (sym (has_bit 1 0x40 old refl));
+        oe = has_bit 2 0x20 new refl ∙ ap (λ (b : Bool). b && has v 0x20) (sym (has_bit 2 0x20 old refl));
+        brk = has_bit 3 0x10 new refl ∙ ap (λ (b : Bool). b && has v 0x10) (sym (has_bit 3 0x10 old refl));
+        urxeie = has_bit 4 0x08 new refl;
+        urxwie = has_bit 5 0x04 new refl;
+        rxwake = has_bit 6 0x02 new refl ∙ ap (λ (b : Bool). b && has v 0x02) (sym (has_bit 6 0x02 old refl));
+      })
+
   pub read_back : ReadBack c v
-  read_back = record { uctl = uctl_back; utctl = utctl_back; rate = rate_back }
+  read_back = record { uctl = uctl_back; utctl = utctl_back; rate = rate_back; urctl = urctl_back; utxbuf = after 0x77 }

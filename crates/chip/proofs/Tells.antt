@@ -12,7 +12,7 @@ use Rattle.chip.specs.Receiving.{any_error}
 use Rattle.chip.specs.Pairs.{EndsState}
 use Rattle.chip.specs.Chips.{holding, waiting, left}
 use Rattle.chip.specs.Laws.{Tells}
-use Rattle.chip.proofs.EachBit.{listed, holds_of}
+use Rattle.chip.proofs.EachBit.{listed, holds_of, has_bit}
 
 empty_tells : {T : Type 0} (xs : List T) → MatchBool (empty xs) (xs ≡ []) (xs ≡ [] → ⊥)
 empty_tells [] = refl
@@ -25,7 +25,7 @@ both_tell (x ∷ xs) ys = λ p. cc (p.0)
 
 -- bit 0 of a byte, and whether any of the four highest is set: computed over all bytes
 pub lowest : (a b c d e f g h : Bool) → has (byte a b c d e f g h) 0x01 ≡ h
-lowest a b c d e f g h = (booleans_Decides _ _).0 (holds_of (a ∷ b ∷ c ∷ d ∷ e ∷ f ∷ g ∷ h ∷ []) (λ bs. beq (has (listed bs) 0x01) (slice_index_or bs 7 false)) refl)
+lowest a b c d e f g h = has_bit 7 0x01 (a ∷ b ∷ c ∷ d ∷ e ∷ f ∷ g ∷ h ∷ []) refl
 
 highest : (a b c d e f g h : Bool) → a || (b || (c || d))
     ≡ has (byte a b c d e f g h) 0x80 || (has (byte a b c d e f g h) 0x40 || (has (byte a b c d e f g h) 0x20 || has (byte a b c d e f g h) 0x10))

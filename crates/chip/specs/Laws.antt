@@ -1,5 +1,5 @@
 -- Laws of the chip, over whole runs of acts and clocks.
-use Rattle.std.specs.Prelude.{◌≡◌, ℕ, ◌≤◌, Bool, true, false, if◌then◌else◌, not, ◌||◌, List, [], ◌∷◌, length, map, filter, Some, Ok, MatchBool, MatchResult, bit_and, bit_or}
+use Rattle.std.specs.Prelude.{◌≡◌, ℕ, ◌≤◌, ◌%◌, Bool, true, false, if◌then◌else◌, not, ◌&&◌, ◌||◌, List, [], ◌∷◌, length, map, filter, Some, Ok, MatchBool, MatchResult, bit_and, bit_or}
 use Rattle.std.specs.List.{list_any}
 use Rattle.line.specs.declared.level.Level.{Level}
 use Rattle.line.specs.declared.level.Level.TheVariants.{Mark}
@@ -9,6 +9,7 @@ use Rattle.ends.specs.Runs.{spoken, taken_down}
 use Rattle.chip.specs.declared.mode.Mode.{Mode}
 use Rattle.chip.specs.declared.receive.Receive.{Receive}
 use Rattle.chip.specs.Bytes.{has, bit}
+use Rattle.chip.specs.Modes.{values}
 use Rattle.chip.specs.Receiving.{noticed, let_through, byte_in, address_bit}
 use Rattle.chip.specs.Pairs.{EndsState}
 use Rattle.chip.specs.Chips.{ChipState, released, waiting, left, write_answer, after_write, read_answer, after_read, utxd, after_clock}
@@ -54,11 +55,23 @@ pub record ReadAtPowerUp (c : ChipState) : Type 0 where
   pub urxbuf : read_answer c 0x76 ≡ Ok 0
   pub utxbuf : read_answer c 0x77 ≡ Ok 0
 
--- A byte that is written and not refused is read back, in UTCTL but for TXEPT and, in reset, TXWake.
+-- URCTL before and after a write: bits 3 and 2 are stored; a 0 in bits 7 to 4 or 1 clears that bit, and a 1 leaves it.
+pub record FlagsWritten (before v after : ℕ) : Type 0 where
+  pub fe : has after 0x80 ≡ has before 0x80 && has v 0x80
+  pub pe : has after 0x40 ≡ has before 0x40 && has v 0x40
+  pub oe : has after 0x20 ≡ has before 0x20 && has v 0x20
+  pub brk : has after 0x10 ≡ has before 0x10 && has v 0x10
+  pub urxeie : has after 0x08 ≡ has v 0x08
+  pub urxwie : has after 0x04 ≡ has v 0x04
+  pub rxwake : has after 0x02 ≡ has before 0x02 && has v 0x02
+
+-- A byte that is written and not refused is read back, in UTCTL but for TXEPT and, in reset, TXWake, in UTXBUF cut to the data bits.
 pub record ReadBack (c : ChipState) (v : ℕ) : Type 0 where
   pub uctl : write_answer c 0x70 v ≡ Ok tt → read_answer (after_write c 0x70 v) 0x70 ≡ Ok v
   pub utctl : read_answer (after_write c 0x71 v) 0x71 ≡ Ok (bit_or (bit_and v (if released c then 0xfe else 0xfa)) (bit c.txept 0x01))
   pub rate : (a : ℕ) → 0x73 ≤ a → a ≤ 0x75 → write_answer c a v ≡ Ok tt → read_answer (after_write c a v) a ≡ Ok v
+  pub urctl : MatchResult (read_answer c 0x72) (λ before. MatchResult (read_answer (after_write c 0x72 v) 0x72) (λ after. FlagsWritten before v after) (λ e. ⊥)) (λ e. ⊥)
+  pub utxbuf : write_answer c 0x77 v ≡ Ok tt → read_answer (after_write c 0x77 v) 0x77 ≡ Ok (v % values c.mode)
 
 -- From a release to the next reset, whatever else is done, the levels on UTXD are those that a bare sender answers for the same characters and
 -- clocks; and it refuses none of the characters.
