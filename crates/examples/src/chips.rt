@@ -274,3 +274,115 @@ fn reset_clears_the_flags_and_keeps_them_clear(rt: HostRuntime) -> Result<(), Fa
     assert_eq!(rt; chip.clock(Level::Space), Level::Mark);
     Ok(())
 }
+
+// With bits of 3 clocks 60 spaces are a frame of zeros with no stop bit and then a break; 59 are the frame alone.
+#[test]
+fn a_break_is_loaded_where_erroneous_bytes_are(rt: HostRuntime) -> Result<(), Fail> {
+    let mut chip = released(PLAIN)?;
+    chip.write(URCTL, 0x08)?;
+    hold(&mut chip, Level::Space, 59);
+    assert!(rt; chip.interrupts().urxifg);
+    assert_eq!(rt; chip.read(URCTL), Ok(0x89));
+    // the break finds the frame unread
+    hold(&mut chip, Level::Space, 1);
+    assert_eq!(rt; chip.read(URCTL), Ok(0xb9));
+    assert_eq!(rt; chip.read(URXBUF), Ok(0x00));
+    assert_eq!(rt; chip.read(URCTL), Ok(0x08));
+    Ok(())
+}
+
+#[test]
+fn a_break_is_told_and_not_loaded_where_erroneous_bytes_are_not(
+    rt: HostRuntime,
+) -> Result<(), Fail> {
+    let mut chip = released(PLAIN)?;
+    give(&mut chip, &CLEAN);
+    assert_eq!(rt; chip.read(URXBUF), Ok(0x41));
+    hold(&mut chip, Level::Space, 60);
+    assert!(rt; !chip.interrupts().urxifg);
+    assert_eq!(rt; chip.read(URCTL), Ok(0x91));
+    assert_eq!(rt; chip.read(URXBUF), Ok(0x41));
+    // it has no address bit, so it has no effect where only addresses count
+    let mut chip = released(ADDRESSED)?;
+    chip.write(URCTL, 0x0c)?;
+    hold(&mut chip, Level::Space, 70);
+    assert_eq!(rt; chip.read(URCTL), Ok(0x0c));
+    Ok(())
+}
+
+#[test]
+fn the_wake_bit_of_a_byte_received(rt: HostRuntime) -> Result<(), Fail> {
+    let address = [1, 1, 0, 1, 0, 0, 0, 0, 0, 1, 0];
+    let data = [1, 0, 0, 1, 0, 0, 0, 0, 0, 1, 0];
+    let mut chip = released(ADDRESSED)?;
+    give(&mut chip, &address);
+    assert_eq!(rt; chip.read(URCTL), Ok(0x02));
+    // a 1 changes nothing, a 0 clears it, and a 1 does not set it
+    chip.write(URCTL, 0x02)?;
+    assert_eq!(rt; chip.read(URCTL), Ok(0x02));
+    chip.write(URCTL, 0x00)?;
+    assert_eq!(rt; chip.read(URCTL), Ok(0x00));
+    chip.write(URCTL, 0x02)?;
+    assert_eq!(rt; chip.read(URCTL), Ok(0x00));
+    assert_eq!(rt; chip.read(URXBUF), Ok(0x41));
+    // a data byte after an address, which is still unread
+    give(&mut chip, &address);
+    give(&mut chip, &data);
+    assert_eq!(rt; chip.read(URCTL), Ok(0x21));
+    // without an address bit all bytes count
+    let mut chip = released(PLAIN)?;
+    chip.write(URCTL, 0x04)?;
+    give(&mut chip, &CLEAN);
+    assert!(rt; chip.interrupts().urxifg);
+    assert_eq!(rt; chip.read(URCTL), Ok(0x04));
+    Ok(())
+}
+
+// 41h has two ones. After its 8 data bits a frame has an even parity bit of 0 and two stop bits, or an odd one of 1 and one stop bit; so
+// the next frame begins at bit 12, or at bit 11.
+#[test]
+fn the_format_counts_from_release(rt: HostRuntime) -> Result<(), Fail> {
+    let frames = [
+        (0xf0, [0, 1, 0, 0, 0, 0, 0, 1, 0, 0, 1, 1, 0]),
+        (0x90, [0, 1, 0, 0, 0, 0, 0, 1, 0, 1, 1, 0, 1]),
+    ];
+    for (uctl, bits) in frames {
+        let mut chip = released(uctl)?;
+        chip.write(UTXBUF, 0x41)?;
+        idle(&mut chip, 1);
+        chip.write(UTXBUF, 0x41)?;
+        idle(&mut chip, 1);
+        for bit in bits {
+            // the third clock of each bit
+            assert_eq!(rt; chip.clock(Level::Mark), Level::from_digit(bit));
+            idle(&mut chip, 2);
+        }
+    }
+    Ok(())
+}
+
+#[test]
+fn reset_ends_a_frame_and_the_divider_counts_from_release(rt: HostRuntime) -> Result<(), Fail> {
+    let mut chip = released(PLAIN)?;
+    chip.write(UTXBUF, 0x41)?;
+    assert_eq!(rt; chip.clock(Level::Mark), Level::Space);
+    chip.write(UTXBUF, 0x42)?;
+    chip.write(UCTL, 0x11)?;
+    assert!(rt; chip.interrupts().utxifg);
+    assert_eq!(rt; chip.read(UTCTL), Ok(0x01));
+    assert_eq!(rt; chip.clock(Level::Mark), Level::Mark);
+    // both bytes are gone; UTXBUF keeps the last one, and takes the next after release
+    assert_eq!(rt; chip.write(UTXBUF, 0x43), Err(Refusal::Closed));
+    assert_eq!(rt; chip.read(UTXBUF), Ok(0x42));
+    chip.write(UBR0, 0x00)?;
+    chip.write(UBR1, 0x01)?;
+    chip.write(UCTL, PLAIN)?;
+    assert_eq!(rt; chip.clock(Level::Mark), Level::Mark);
+    // bits of 256 clocks: a start bit, and a data bit of 1
+    chip.write(UTXBUF, 0x01)?;
+    for _ in 0..256 {
+        assert_eq!(rt; chip.clock(Level::Mark), Level::Space);
+    }
+    assert_eq!(rt; chip.clock(Level::Mark), Level::Mark);
+    Ok(())
+}
