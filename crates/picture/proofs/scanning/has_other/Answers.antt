@@ -1,18 +1,22 @@
 -- The largest byte is above 1 where some byte is.
-use Rattle.std.proofs.Common.{◌≡◌, ℕ, max, Bool, false, ◌||◌, ltb, List, [], ◌∷◌, fold, ap, ◌∙◌, arith}
-use Rattle.std.specs.List.{list_any}
+use Rattle.std.proofs.Common.{◌≡◌, ℕ, max, Bool, false, ◌||◌, nat_lt, List, [], ◌∷◌, fold, sym, ◌∙◌, MatchOption, arith, rules}
+use Rattle.std.specs.List.{list_any, reduce}
 use Rattle.std.proofs.lemmas.Bool.Decides.{nat_tests}
+use Rattle.std.proofs.lemmas.Iterator.{YieldsList-from_slice}
+use Rattle.std.proofs.lemmas.Iterator.Adapters.{option_map_id}
+use Rattle.std.proofs.lemmas.Iterator.Consumers.{YieldsList-from_copied, max_from_yields_List}
 use Rattle.picture.proofs.scanning.has_other.Goals as goal
 
-nothing_more : (x : Bool) → x ≡ (x || false)
-nothing_more x = grind (arith, nat_tests)
+largest_above : (m : ℕ) (bs : List ℕ) → nat_lt 1 (fold max m bs) ≡ (nat_lt 1 m || list_any (nat_lt 1) bs)
+largest_above m [] = grind (arith, nat_tests)
+largest_above m (b ∷ bs) = largest_above (max m b) bs ∙ grind (arith, nat_tests)
 
-larger : (a b : ℕ) (x : Bool) → (ltb 1 (max a b) || x) ≡ (ltb 1 a || (ltb 1 b || x))
-larger a b x = grind (arith, nat_tests)
-
-largest_above : (m : ℕ) (bs : List ℕ) → ltb 1 (fold max m bs) ≡ (ltb 1 m || list_any (ltb 1) bs)
-largest_above m [] = nothing_more (ltb 1 m)
-largest_above m (b ∷ bs) = largest_above (max m b) bs ∙ larger m b (list_any (ltb 1) bs)
+some_above : (bs : List ℕ) (r : Bool) → MatchOption (reduce max bs) (r ≡ false) (λ m. r ≡ nat_lt 1 m) → r ≡ list_any (nat_lt 1) bs
+some_above [] r h = h
+some_above (b ∷ bs) r h = h ∙ largest_above b bs
 
 pub returns : goal.returns
-returns c = ap (λ (m : ℕ). ltb 1 m) c.largest.ensures ∙ largest_above 0 c.args.picture.now
+returns c =
+    let most : c.max.result ≡ reduce max c.args.picture.now =
+    sym (option_map_id _) ∙ max_from_yields_List _ _ c.max.ensures.ran (YieldsList-from_copied (YieldsList-from_slice c.args.picture.now cc)) in
+    some_above c.args.picture.now _ (rw (← most) (search rules))
