@@ -3,9 +3,12 @@ use Rattle.std.specs.Prelude.{ℕ, if◌then◌else◌, List, [], map, length, O
 use Rattle.line.specs.declared.level.Level.TheVariants.{Mark}
 use Rattle.line.specs.declared.refusal.Refusal.{Refusal}
 use Rattle.line.specs.declared.refusal.Refusal.TheVariants.{TooShort}
+use Rattle.ends.specs.Sender.{SenderState}
+use Rattle.ends.specs.Receiver.{ReceiverState}
 use Rattle.queue.specs.Queues.{queued_to, queued_from}
 use Rattle.link.specs.Link.{LinkState, linked}
-use Rattle.link.specs.Acts.{all_answers}
+use Rattle.link.specs.declared.joined.Link.{Link}
+use Rattle.link.specs.Acts.{link_of, all_answers}
 use Rattle.capi.specs.declared.numbers.EndNumbers.{EndNumbers}
 use Rattle.capi.specs.declared.numbers.ActNumbers.{ActNumbers}
 use Rattle.capi.specs.declared.numbers.AnswerNumbers.{AnswerNumbers}
@@ -19,6 +22,11 @@ joined s r = and_then (ends_at s r) (λ p. Ok (linked p.0 p.1 Mark))
 -- the same with a queue on each end
 abbrev pub joined_queued : EndNumbers → EndNumbers → Result LinkState Refusal
 joined_queued s r = and_then (ends_at s r) (λ p. Ok (linked (queued_to p.0 []) (queued_from p.1 []) Mark))
+
+-- what a link means that was made or declined, by what its ends mean
+abbrev pub made : {S R : Type 0} → (S → SenderState) → (R → ReceiverState) → Result (Link S R) Refusal → Result LinkState Refusal
+made sends hears (Ok k) = Ok (link_of sends hears k)
+made sends hears (Err e) = Err e
 
 -- what each act answers, one after the other
 abbrev pub told_answers : LinkState → List ActNumbers → List AnswerNumbers

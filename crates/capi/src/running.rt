@@ -1,17 +1,20 @@
 // Runs of a link for programs in other languages.
 ghost use Rattle.std.specs.Prelude.{◌≡◌, ◌≤◌, ◌++◌, map, length, drop, IfOk, MatchResult};
+ghost use Rattle.ends.specs.BareSender.{meant as sending};
+ghost use Rattle.ends.specs.BareReceiver.{meant as receiving};
+ghost use Rattle.queue.specs.Queues.{queued_to, queued_from};
 ghost use Rattle.link.specs.Link.{after_act};
 ghost use Rattle.link.specs.Acts.{link_of, answer};
 ghost use Rattle.link.specs.Delivery.{Delivers};
 ghost use Rattle.capi.specs.Settings.{answer_number};
 ghost use Rattle.capi.specs.Translating.{act_of, act_check, acts_check, told_answer};
-ghost use Rattle.capi.specs.Running.{told_answers, joined, joined_queued, run_result, run_at, answers_at};
+ghost use Rattle.capi.specs.Running.{told_answers, joined, joined_queued, made, run_result, answers_at};
 
 use super::numbers::{ActNumbers, AnswerNumbers, EndNumbers};
 use super::settings::bare_ends;
 use super::telling::answer_number;
 use super::translating::check_all;
-use ends::{Receiver, Sender};
+use ends::{BareReceiver, BareSender, Receiver, Sender};
 use line::Refusal;
 use link::{Act, Link};
 use queue::{ReceiveQueue, SendQueue};
@@ -28,21 +31,17 @@ pub extern "C" fn hotskrebi_run(
     ensures answers { MatchResult (run_result (joined sender.now receiver.now) acts.now (length answers.old)) (λ n. answers.new ≡ answers_at (joined sender.now receiver.now) acts.now ++ drop n answers.old) (λ _. answers.new ≡ answers.old) }
     ensures delivers { IfOk (joined sender.now receiver.now) (λ m. Delivers m (map act_of acts.now)) }
 {
-    answer_number(run_bare(sender, receiver, acts, answers))
+    answer_number(run(bare_link(sender, receiver), acts, answers))
 }
 
-// A function of its own, as run_queued is: `?` needs one that answers a Result, and a closure of `and_then` would lend the answers.
-fn run_bare(
+fn bare_link(
     sender: &EndNumbers,
     receiver: &EndNumbers,
-    acts: &[ActNumbers],
-    answers: &mut [AnswerNumbers],
-) -> Result<usize, Refusal>
-    ensures answer { result ≡ run_result (joined sender.now receiver.now) acts.now (length answers.old) }
-    ensures answers { MatchResult result (λ n. answers.new ≡ answers_at (joined sender.now receiver.now) acts.now ++ drop n answers.old) (λ _. answers.new ≡ answers.old) }
+) -> Result<Link<BareSender, BareReceiver>, Refusal>
+    ensures { made sending receiving result ≡ joined sender.now receiver.now }
 {
     let (sends, receives) = bare_ends(sender, receiver)?;
-    run(&mut Link::join(sends, receives), acts, answers)
+    Ok(Link::join(sends, receives))
 }
 
 // The same with a queue in front of the sender and one behind the receiver.
@@ -57,37 +56,34 @@ pub extern "C" fn hotskrebi_run_queued(
     ensures answers { MatchResult (run_result (joined_queued sender.now receiver.now) acts.now (length answers.old)) (λ n. answers.new ≡ answers_at (joined_queued sender.now receiver.now) acts.now ++ drop n answers.old) (λ _. answers.new ≡ answers.old) }
     ensures delivers { IfOk (joined_queued sender.now receiver.now) (λ m. Delivers m (map act_of acts.now)) }
 {
-    answer_number(run_queued(sender, receiver, acts, answers))
+    answer_number(run(queued_link(sender, receiver), acts, answers))
 }
 
-fn run_queued(
+fn queued_link(
     sender: &EndNumbers,
     receiver: &EndNumbers,
-    acts: &[ActNumbers],
-    answers: &mut [AnswerNumbers],
-) -> Result<usize, Refusal>
-    ensures answer { result ≡ run_result (joined_queued sender.now receiver.now) acts.now (length answers.old) }
-    ensures answers { MatchResult result (λ n. answers.new ≡ answers_at (joined_queued sender.now receiver.now) acts.now ++ drop n answers.old) (λ _. answers.new ≡ answers.old) }
+) -> Result<Link<SendQueue<BareSender>, ReceiveQueue<BareReceiver>>, Refusal>
+    ensures { made (λ q. queued_to (sending q.below) q.held) (λ q. queued_from (receiving q.below) q.held) result ≡ joined_queued sender.now receiver.now }
 {
     let (sends, receives) = bare_ends(sender, receiver)?;
-    let mut link = Link::join(SendQueue::new(sends), ReceiveQueue::new(receives));
-    run(&mut link, acts, answers)
+    Ok(Link::join(SendQueue::new(sends), ReceiveQueue::new(receives)))
 }
 
 // All acts are looked at first, so that none is done where one is declined.
-fn run<S: Sender, R: Receiver>(
-    link: &mut Link<S, R>,
+fn run<S: Sender + Drop, R: Receiver + Drop>(
+    link: Result<Link<S, R>, Refusal>,
     acts: &[ActNumbers],
     answers: &mut [AnswerNumbers],
 ) -> Result<usize, Refusal>
-    ensures answer { result ≡ run_at acts.now (length answers.old) (link_of S.Sender.meaning R.Receiver.meaning link.old) }
-    ensures answers { MatchResult result (λ n. answers.new ≡ told_answers (link_of S.Sender.meaning R.Receiver.meaning link.old) acts.now ++ drop n answers.old) (λ _. answers.new ≡ answers.old) }
+    ensures answer { result ≡ run_result (made S.Sender.meaning R.Receiver.meaning link) acts.now (length answers.old) }
+    ensures answers { MatchResult result (λ n. answers.new ≡ answers_at (made S.Sender.meaning R.Receiver.meaning link) acts.now ++ drop n answers.old) (λ _. answers.new ≡ answers.old) }
 {
+    let mut link = link?;
     check_all(acts)?;
     if answers.len() < acts.len() {
         return Err(Refusal::TooShort);
     }
-    do_all(link, acts, answers);
+    do_all(&mut link, acts, answers);
     Ok(acts.len())
 }
 
