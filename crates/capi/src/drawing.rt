@@ -6,6 +6,7 @@ ghost use Rattle.capi.specs.Drawing.{draw_result, drawing};
 
 use super::numbers::EndNumbers;
 use super::telling::tell;
+use ends::Timing;
 use line::Refusal;
 use picture::draw;
 
@@ -30,5 +31,5 @@ fn draw_at(end: &EndNumbers, characters: &[u16], picture: &mut [u8]) -> Result<u
     ensures picture { MatchResult result (λ n. picture.new ≡ drawing end.now characters.now ++ drop n picture.old) (λ _. picture.new ≡ picture.old) }
     ensures sent { IfOk (end_times end.now) (λ t. AsSentAt t characters.now) }
 {
-    draw(&end.timing()?, characters, picture)
+    draw(&Timing::try_from(*end)?, characters, picture)
 }

@@ -6,6 +6,7 @@ ghost use Rattle.capi.specs.Scanning.{told_entry, scan_result, listing};
 
 use super::numbers::{EndNumbers, EntryNumbers};
 use super::telling::tell;
+use ends::Timing;
 use line::Refusal;
 use picture::{FromEntry, scan};
 
@@ -38,5 +39,5 @@ fn scan_at(end: &EndNumbers, picture: &[u8], entries: &mut [EntryNumbers]) -> Re
     ensures entries { MatchResult result (λ n. entries.new ≡ listing end.now picture.now ++ drop n entries.old) (λ _. entries.new ≡ entries.old) }
     ensures recovers { IfOk (end_times end.now) (λ t. RecoversAt t picture.now (listed_at t picture.now)) }
 {
-    scan(&end.timing()?, picture, entries)
+    scan(&Timing::try_from(*end)?, picture, entries)
 }

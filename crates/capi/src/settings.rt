@@ -8,17 +8,20 @@ use ends::{BareReceiver, BareSender, Kind, Timing};
 use line::{Format, Refusal};
 use usart::{Settings, Usart};
 
-impl EndNumbers {
-    pub(crate) fn timing(&self) -> Result<Timing, Refusal>
-        ensures { answered result ≡ end_times self.now }
-    {
+// Declines for the first number that is out of range.
+impl TryFrom<EndNumbers> for Timing {
+    type Error = Refusal;
+
+    ghost try_from_gives = { λ numbers result. answered result ≡ end_times numbers };
+
+    fn try_from(numbers: EndNumbers) -> Result<Timing, Refusal> {
         let format = Format::from_numbers(
-            self.data_bits,
-            self.address_bits,
-            self.parity,
-            self.stop_bits,
+            numbers.data_bits,
+            numbers.address_bits,
+            numbers.parity,
+            numbers.stop_bits,
         )?;
-        let settings = Settings::new(self.divider, self.modulator)?;
+        let settings = Settings::new(numbers.divider, numbers.modulator)?;
         Usart::timing(format, settings)
     }
 }
@@ -30,7 +33,7 @@ pub(crate) fn bare_ends(
 ) -> Result<(BareSender, BareReceiver), Refusal>
     ensures { bare_states result ≡ ends_at sender.now receiver.now }
 {
-    let sends = BareSender::new(sender.timing()?);
-    let receives = BareReceiver::new(receiver.timing()?);
+    let sends = BareSender::new(Timing::try_from(*sender)?);
+    let receives = BareReceiver::new(Timing::try_from(*receiver)?);
     Ok((sends, receives))
 }
