@@ -8,12 +8,12 @@ use super::numbers::{EndNumbers, EntryNumbers};
 use super::telling::tell;
 use ends::Timing;
 use line::Refusal;
-use picture::{FromEntry, scan};
+use picture::scan;
 
-impl FromEntry for EntryNumbers {
-    ghost of_entry = { told_entry };
+impl From<(u16, u8)> for EntryNumbers {
+    ghost from_gives = { λ entry numbers. numbers ≡ told_entry entry };
 
-    fn from_entry((character, flags): (u16, u8)) -> EntryNumbers {
+    fn from((character, flags): (u16, u8)) -> EntryNumbers {
         EntryNumbers { character, flags }
     }
 }

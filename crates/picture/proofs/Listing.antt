@@ -1,6 +1,8 @@
 -- What is listed of a picture, piece by piece and of frames.
-use Rattle.std.proofs.Common.{◌≡◌, ℕ, List, [], ◌∷◌, ◌++◌, sym, refl, ap, ◌∙◌}
-use Rattle.std.proofs.lemmas.List.{append_assoc}
+use Rattle.std.proofs.Common.{◌≡◌, ℕ, suc, ◌+◌, ◌<◌, ◌≤◌, List, [], ◌∷◌, ◌++◌, length, take, drop, set, get_or, sym, refl, ap, ◌∙◌, arith}
+use Rattle.std.specs.List.{AllZip}
+use Rattle.std.proofs.lemmas.List.{append_assoc, take_more, take_more_set, drop_more, drop-set-lt, drop-drop, length-set}
+use Rattle.std.proofs.lemmas.Slice.Zip.{all_zipped_more}
 use Rattle.line.specs.declared.level.Level.{Level}
 use Rattle.line.specs.declared.level.Level.TheVariants.{Space, Mark}
 use Rattle.line.specs.Levels.{level_of}
@@ -34,3 +36,32 @@ recovers t bs s oks agree inside xs m narrow is =
     ap (λ (b : List ℕ). taken_down (at_rest t) (levels b)) is
     ∙ ap (λ (l : List Level). taken_down (at_rest t) l) (levels_bytes (transmission s xs m))
     ∙ hears_all (at_rest t) (sound_bare t [] Mark idle) refl refl s oks agree inside xs m narrow
+
+-- of the entries `all`, `coming` are still to come; the others stand first in `list`, each as what it gives, and past them all is as in `old`
+pub record Partly {E : Type 0} (gives : Entry → E → Type 0) (all : List Entry) (old : List E) (coming : List Entry) (list : List E) (found : ℕ) : Type 0 where
+  pub follow : drop found all ≡ coming
+  pub written : AllZip gives (take found all) (take found list)
+  pub kept : drop found list ≡ drop found old
+  pub place : found + length coming ≡ length all
+  pub room : length all ≤ length list
+
+module _ {E : Type 0} {gives : Entry → E → Type 0} {all : List Entry} {old : List E} {coming : List Entry} {list : List E} {k : ℕ}
+    (p : Partly gives all old coming list k) {after : List E} {next : ℕ} (es : List Entry) where
+  pub none_came : coming ≡ es → after ≡ list → next ≡ k → Partly gives all old es after next
+  none_came e l n = rw (l, n, ← e) p
+
+  pub one_came : (e : Entry) (x : E) → coming ≡ e ∷ es → gives e x → after ≡ set list k x → next ≡ k + 1 → Partly gives all old es after next
+  one_came e x more g l n =
+      let size : length coming ≡ suc (length es) = ap length more in
+      let within : k < length all = omega (arith, p.place) in
+      let fits : k < length list = omega (arith, p.place, p.room) in
+      let follows : get_or all k e ∷ drop (k + 1) all ≡ e ∷ es = sym (drop_more all k e within) ∙ p.follow ∙ more in
+      let first : get_or all k e ≡ e = cc in
+      rw (l, n)
+      record {
+        follow = cc;
+        written = rw (take_more all k e within, take_more_set list k x fits, first) (all_zipped_more gives (take k all) (take k list) e x p.written g);
+        kept = drop-set-lt (k + 1) list k x (omega arith) ∙ sym (drop-drop 1 k list) ∙ ap (drop 1) p.kept ∙ drop-drop 1 k old;
+        place = omega (arith, p.place);
+        room = rw length-set p.room;
+      }

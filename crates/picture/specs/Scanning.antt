@@ -1,7 +1,9 @@
 -- What a scan of a picture lists, and when it declines.
-use Rattle.std.specs.Prelude.{◌≡◌, ℕ, Bool, if◌then◌else◌, List, [], ◌∷◌, ◌++◌, map, length, Ok, Err, Result, nat_lt}
-use Rattle.std.specs.List.{list_any}
-use Rattle.std.proofs.lemmas.List.{map-id}
+use Rattle.std.specs.Prelude.{◌≡◌, ℕ, Bool, if◌then◌else◌, List, [], ◌∷◌, ◌++◌, map, length, take, drop, Ok, Err, Result, nat_lt}
+use Rattle.std.specs.List.{list_any, AllZip}
+use Rattle.std.proofs.Common.{sym, ap, ◌∙◌, ap₂}
+use Rattle.std.proofs.lemmas.List.{map-id, take-append-drop}
+use Rattle.std.proofs.lemmas.Slice.Zip.{AllZip-map}
 use Rattle.line.specs.declared.level.Level.{Level}
 use Rattle.line.specs.declared.refusal.Refusal.{Refusal}
 use Rattle.line.specs.declared.refusal.Refusal.TheVariants.{NotALevel, TooShort}
@@ -32,9 +34,17 @@ listed_at t bs = taken_down (resting t) (levels bs)
 abbrev pub listed : Timing → List ℕ → List Entry
 listed t bs = listed_at (times_of t) bs
 
--- pairs of plain numbers are listed as they are: what a scan promises of a list of pairs speaks of the entries themselves
-pub pairs_stay : (es : List Entry) → map (λ (e : Entry). e) es ≡ es
-pairs_stay es = map-id es
+-- n entries stand first, each as what it gives, and past them all is as it was
+abbrev pub Written : {E : Type 0} → (Entry → E → Type 0) → List Entry → ℕ → List E → List E → Type 0
+Written gives es n new old = AllZip gives es (take n new) × (drop n new ≡ drop n old)
+
+-- where an entry gives what a function says
+pub written_by : {E : Type 0} (f : Entry → E) (es : List Entry) (n : ℕ) (new old : List E) → Written (λ e x. x ≡ f e) es n new old → new ≡ map f es ++ drop n old
+written_by f es n new old w = sym (take-append-drop n new) ∙ ap₂ (λ xs ys. xs ++ ys) (AllZip-map f es (take n new) w.0) w.1
+
+-- pairs of plain numbers are listed as they are
+pub pairs_stay : (es : List Entry) (n : ℕ) (new old : List Entry) → Written (λ e x. x ≡ e) es n new old → new ≡ es ++ drop n old
+pairs_stay es n new old w = written_by (λ e. e) es n new old w ∙ ap (λ xs. xs ++ drop n old) (map-id es)
 
 -- how many entries arrive at a receiver with some bytes, or why none is listed: room is the length of the list
 abbrev pub piece_answer : ReceiverState → List ℕ → ℕ → Result ℕ Refusal

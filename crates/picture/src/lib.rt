@@ -3,14 +3,12 @@
 #![tactic(auto)]
 
 pub mod drawing;
-pub mod from_entry;
 pub mod runs;
 pub mod scanner;
 pub mod scanning;
 pub mod spoiling;
 
 pub use drawing::draw;
-pub use from_entry::FromEntry;
 pub use runs::{Run, Runs, run_length};
 pub use scanner::Scanner;
 pub use scanning::scan;

@@ -1,26 +1,25 @@
 // Scanning a picture for characters.
-ghost use Rattle.std.specs.Prelude.{◌≡◌, ℕ, ◌+◌, ◌<◌, ◌≤◌, List, [], ◌∷◌, ◌++◌, map, length, drop, MatchResult};
+ghost use Rattle.std.specs.Prelude.{◌≡◌, ℕ, ◌+◌, ◌<◌, ◌≤◌, List, [], ◌∷◌, ◌++◌, length, MatchResult};
 ghost use Rattle.std.specs.Option.{option_to_list};
 ghost use Rattle.line.specs.declared.level.Level.{Level};
 ghost use Rattle.line.specs.Levels.{level_of};
 ghost use Rattle.ends.specs.Receiver.{after_clock, after_read};
 ghost use Rattle.ends.specs.BareReceiver.{meant, at_rest};
 ghost use Rattle.ends.specs.Runs.{taken_down};
-ghost use Rattle.picture.specs.Scanning.{levels, any_other, listed, after_listed, piece_answer, scan_answer, Recovers, GoesOn};
+ghost use Rattle.picture.specs.Scanning.{levels, any_other, listed, after_listed, piece_answer, scan_answer, Written, Recovers, GoesOn};
 
-use super::from_entry::FromEntry;
 use super::scanner::Scanner;
 use ends::{BareReceiver, Receiver, Timing};
 use line::{Level, Refusal};
 
 // Gives the picture to a new receiver and lists every entry, read as it arrives; answers how many there are.
-pub fn scan<E: FromEntry + Copy>(
+pub fn scan<E: From<(u16, u8)> + Copy>(
     timing: &Timing,
     picture: &[u8],
     entries: &mut [E],
 ) -> Result<usize, Refusal>
     ensures answer { result ≡ scan_answer timing.now picture.now (length entries.old) }
-    ensures entries { MatchResult result (λ n. entries.new ≡ map E.of_entry (listed timing.now picture.now) ++ drop n entries.old) (λ _. entries.new ≡ entries.old) }
+    ensures entries { MatchResult result (λ n. Written E.from_gives (listed timing.now picture.now) n entries.new entries.old) (λ _. entries.new ≡ entries.old) }
     ensures recovers { Recovers timing.now picture.now (listed timing.now picture.now) }
 {
     let mut scanner = Scanner::new(timing);
@@ -38,13 +37,13 @@ impl Scanner {
     }
 
     // Lists every entry that arrives with the next piece of the picture; answers how many there are.
-    pub fn scan<E: FromEntry + Copy>(
+    pub fn scan<E: From<(u16, u8)> + Copy>(
         &mut self,
         piece: &[u8],
         entries: &mut [E],
     ) -> Result<usize, Refusal>
         ensures answer { result ≡ piece_answer (meant self.old.receiver) piece.now (length entries.old) }
-        ensures entries { MatchResult result (λ n. entries.new ≡ map E.of_entry (taken_down (meant self.old.receiver) (levels piece.now)) ++ drop n entries.old) (λ _. entries.new ≡ entries.old) }
+        ensures entries { MatchResult result (λ n. Written E.from_gives (taken_down (meant self.old.receiver) (levels piece.now)) n entries.new entries.old) (λ _. entries.new ≡ entries.old) }
         ensures state { MatchResult result (λ _. meant self.new.receiver ≡ after_listed (meant self.old.receiver) (levels piece.now)) (λ _. meant self.new.receiver ≡ meant self.old.receiver) }
         ensures pieces { GoesOn (meant self.old.receiver) piece.now }
     {
@@ -83,15 +82,15 @@ impl Scanner {
 
     // The next place is counted by hand. Tried with places taken from `entries.iter_mut()` by `next`: the goal that is left says what stands
     // in the entries in the end, and of that nothing is known once the loan is over.
-    fn list<E: FromEntry + Copy>(&mut self, piece: &[u8], entries: &mut [E])
+    fn list<E: From<(u16, u8)> + Copy>(&mut self, piece: &[u8], entries: &mut [E])
         requires { length (taken_down (meant self.old.receiver) (levels piece.now)) ≤ length entries.old }
-        ensures entries { entries.new ≡ map E.of_entry (taken_down (meant self.old.receiver) (levels piece.now)) ++ drop (length (taken_down (meant self.old.receiver) (levels piece.now))) entries.old }
+        ensures entries { Written E.from_gives (taken_down (meant self.old.receiver) (levels piece.now)) (length (taken_down (meant self.old.receiver) (levels piece.now))) entries.new entries.old }
         ensures state { meant self.new.receiver ≡ after_listed (meant self.old.receiver) (levels piece.now) }
     {
         let mut found = 0;
         for byte in piece {
             if let Some(entry) = self.step(*byte) {
-                entries[found] = E::from_entry(entry);
+                entries[found] = E::from(entry);
                 found += 1;
             }
         }
