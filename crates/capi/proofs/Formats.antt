@@ -1,5 +1,5 @@
 -- The format that has these plain numbers, and the times of an end that has them.
-use Rattle.std.proofs.Common.{◌≡◌, ℕ, ◌<◌, ◌≤◌, Bool, true, false, cond, eqb, leb, Ok, Err, Result, sym, refl, ap, ◌∙◌, ap₂, MatchResult}
+use Rattle.std.proofs.Common.{◌≡◌, ℕ, ◌<◌, ◌≤◌, Bool, true, false, if◌then◌else◌, ◌==◌, nat_le, Ok, Err, Result, sym, refl, ap, ◌∙◌, ap₂, MatchResult}
 use Rattle.std.proofs.lemmas.Bool.{eqb-true, le-leb, lt-leb}
 use Rattle.line.specs.declared.refusal.Refusal.{Refusal}
 use Rattle.line.specs.declared.refusal.Refusal.TheVariants.{OutOfRange}
@@ -21,7 +21,7 @@ size_named : (x : DataBits) (n : ℕ) → data_count x ≡ n → size_of n ≡ O
 size_named Seven n e = sym (ap size_of e)
 size_named Eight n e = sym (ap size_of e)
 
-address_named : (x : Bool) (n : ℕ) → cond x 1 0 ≡ n → address_of n ≡ Ok x
+address_named : (x : Bool) (n : ℕ) → (if x then 1 else 0) ≡ n → address_of n ≡ Ok x
 address_named true n e = sym (ap address_of e)
 address_named false n e = sym (ap address_of e)
 
@@ -50,16 +50,16 @@ abbrev Known : {A : Type 0} → (A → ℕ) → ℕ → Result A Refusal → Typ
 Known number n r = MatchResult r (λ x. number x ≡ n) (λ e. e ≡ OutOfRange)
 
 tried : {A : Type 0} (number : A → ℕ) (n k : ℕ) (x : A) (rest : Result A Refusal) → number x ≡ k → Known number n rest
-    → Known number n (cond (eqb n k) (Ok x) rest)
+    → Known number n (if n == k then Ok x else rest)
 tried number n k x rest is other =
-    at (eqb n k) refl
+    at (n == k) refl
   where
-    at : (b : Bool) → eqb n k ≡ b → Known number n (cond b (Ok x) rest)
+    at : (b : Bool) → (n == k) ≡ b → Known number n (if b then Ok x else rest)
     at true e = is ∙ sym (eqb-true n k e)
     at false e = other
 
 abbrev address_number : Bool → ℕ
-address_number b = cond b 1 0
+address_number b = if b then 1 else 0
 
 size_known : (n : ℕ) → Known data_count n (size_of n)
 size_known n = tried data_count n 7 Seven _ refl (tried data_count n 8 Eight _ refl refl)
@@ -87,27 +87,28 @@ unnamed d a p s none =
     at (Ok x) (Ok y) (Ok z) (Ok w) i j k l =
         absurd (none (record { size = x; address = y; parity = z; stops = w }) (record { of_size = i; of_address = j; of_parity = k; of_stops = l }))
 
-abbrev Found : Type 0
-Found = Result Times Refusal
+-- the times of an end with a format, where its divider is large enough
+abbrev timed : EndNumbers → Bool → Format → Result Times Refusal
+timed e enough f = if enough then Ok (usart_times f e.divider e.modulator) else Err OutOfRange
 
 pub no_format : (e : EndNumbers) → ((f : Format) → Numbers f e.data_bits e.address_bits e.parity e.stop_bits → ⊥) → end_times e ≡ Err OutOfRange
 unfolding end_times
 no_format e none =
-    ap {B = Found} (λ r. and_then r (λ f. cond (leb 3 e.divider) (Ok (usart_times f e.divider e.modulator)) (Err OutOfRange)))
+    ap (λ r. and_then r (timed e (nat_le 3 e.divider)))
     (unnamed e.data_bits e.address_bits e.parity e.stop_bits none)
 
 at_format : (e : EndNumbers) (f : Format) → Numbers f e.data_bits e.address_bits e.parity e.stop_bits
-    → end_times e ≡ cond (leb 3 e.divider) (Ok (usart_times f e.divider e.modulator)) (Err OutOfRange)
+    → end_times e ≡ timed e (nat_le 3 e.divider) f
 unfolding end_times
 at_format e f h =
-    ap {B = Found} (λ r. and_then r (λ f. cond (leb 3 e.divider) (Ok (usart_times f e.divider e.modulator)) (Err OutOfRange)))
+    ap (λ r. and_then r (timed e (nat_le 3 e.divider)))
     (named f e.data_bits e.address_bits e.parity e.stop_bits h)
 
 pub too_small : (e : EndNumbers) (f : Format) → Numbers f e.data_bits e.address_bits e.parity e.stop_bits → e.divider < 3 → end_times e ≡ Err OutOfRange
 too_small e f h small =
-    at_format e f h ∙ ap {B = Found} (λ b. cond b (Ok (usart_times f e.divider e.modulator)) (Err OutOfRange)) (lt-leb 3 e.divider small)
+    at_format e f h ∙ ap (λ b. timed e b f) (lt-leb 3 e.divider small)
 
 pub in_range : (e : EndNumbers) (f : Format) → Numbers f e.data_bits e.address_bits e.parity e.stop_bits → 3 ≤ e.divider
     → end_times e ≡ Ok (usart_times f e.divider e.modulator)
 in_range e f h enough =
-    at_format e f h ∙ ap {B = Found} (λ b. cond b (Ok (usart_times f e.divider e.modulator)) (Err OutOfRange)) (le-leb 3 e.divider enough)
+    at_format e f h ∙ ap (λ b. timed e b f) (le-leb 3 e.divider enough)

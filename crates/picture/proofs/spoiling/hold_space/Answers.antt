@@ -1,5 +1,5 @@
 -- The bytes between the two ends, which are cut to the picture's length, are 0.
-use Rattle.std.proofs.Common.{◌≡◌, ℕ, ◌+◌, ◌-◌, ◌<◌, ◌≤◌, min, cond, ltb, leb, List, ◌++◌, length, get_or, take, drop, replicate, ap, ◌∙◌, ⊎_elim, arith}
+use Rattle.std.proofs.Common.{◌≡◌, ℕ, ◌+◌, ◌-◌, ◌<◌, ◌≤◌, min, if◌then◌else◌, nat_le, nat_lt, List, ◌++◌, length, get_or, take, drop, replicate, ap, ◌∙◌, ⊎_elim, arith}
 use borrow.Rule.Slice.PartMut.{put_mid}
 use Rattle.std.proofs.lemmas.Bool.{cases_lt}
 use Rattle.std.proofs.lemmas.Bool.Decides.{nat_tests}
@@ -12,7 +12,7 @@ module _ (xs : List ℕ) (a e : ℕ) (ordered : a ≤ e) (within : e ≤ length 
 
   -- what stands at a place after the part became zeros
   zeroed : (k : ℕ) → k < length xs
-      → get_or (put_mid a (e - a) xs (replicate (e - a) 0)) k 0 ≡ cond (leb a k) (cond (ltb k e) 0 (get_or xs k 0)) (get_or xs k 0)
+      → get_or (put_mid a (e - a) xs (replicate (e - a) 0)) k 0 ≡ (if nat_le a k then (if nat_lt k e then 0 else get_or xs k 0) else get_or xs k 0)
   zeroed k h =
       let rest : List ℕ = drop (e - a) (drop a xs) in
       let all : List ℕ = replicate (e - a) 0 ++ rest in ⊎_elim
@@ -34,7 +34,7 @@ module _ (xs : List ℕ) (a e : ℕ) (ordered : a ≤ e) (within : e ≤ length 
 
 -- the same, by the two ends before they are cut
 all_spoiled : (x old from to size begin end k : ℕ) → end ≡ min to size → begin ≡ min from end → k < size
-    → x ≡ cond (leb begin k) (cond (ltb k end) 0 old) old → x ≡ cond (leb from k) (cond (ltb k to) 0 old) old
+    → x ≡ (if nat_le begin k then (if nat_lt k end then 0 else old) else old) → x ≡ (if nat_le from k then (if nat_lt k to then 0 else old) else old)
 all_spoiled x old from to size begin end k e b h is = ⊎_elim
     (λ (l : k < to). ⊎_elim (λ (f : k < from). grind (arith, nat_tests)) (λ (f : from ≤ k). grind (arith, nat_tests)) (cases_lt k from))
     (λ (g : to ≤ k). grind (arith, nat_tests))
