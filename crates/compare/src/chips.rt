@@ -3,7 +3,7 @@ use super::address;
 use super::dice::Dice;
 use super::firmware::{Step, some_steps};
 use super::receive::Receive;
-use super::said::{Answer, Both, Said};
+use super::said::{Answer, Answers, Said, numbered};
 use super::shape::Shape;
 use super::tally::{Case, Numbered};
 use super::transmit::{Received, Transmit};
@@ -98,7 +98,7 @@ fn by_library(heap: Global, steps: &[Step]) -> Result<Vec<Answer>, AllocError> {
 pub(crate) struct Driven {
     seed: u16,
     steps: Vec<Step>,
-    answers: Both<Vec<Answer>>,
+    answers: Answers,
 }
 
 impl Numbered for Driven {
@@ -106,10 +106,9 @@ impl Numbered for Driven {
         let mut dice = Dice::new(u32::from(seed));
         let shape = Shape::numbered(seed % 24);
         let steps = some_steps(heap, &mut dice, shape)?;
-        let answers = Both {
-            own: by_times(heap, steps.as_slice())?,
-            library: by_library(heap, steps.as_slice())?,
-        };
+        let own = by_times(heap, steps.as_slice())?;
+        let library = by_library(heap, steps.as_slice())?;
+        let answers = numbered(heap, own.as_slice(), library.as_slice())?;
         Ok(Some(Driven {
             seed,
             steps,
@@ -128,10 +127,11 @@ impl fmt::Display for Driven {
     fn fmt<W: fmt::Write>(&self, f: &mut fmt::Formatter<W>) -> fmt::Result {
         let seed = self.seed;
         let place = self.answers.difference().unwrap_or(0);
+        let steps = self.steps.as_slice();
+        let done = steps.get(..=place).unwrap_or(steps);
         writeln!(
             f,
-            "seed {seed}, to step {place}, counted from 0, of {:?}",
-            self.steps
+            "seed {seed}, to the last of the steps, number {place} from 0, {done:?}"
         )?;
         write!(f, "{}", self.answers.at(place))
     }

@@ -119,7 +119,7 @@ impl Setup {
 pub(crate) struct Rated {
     seed: u16,
     setup: Setup,
-    verdicts: Both<Result<Verdict, Refusal>>,
+    verdicts: Both<Result<Verdict, u8>>,
 }
 
 impl Numbered for Rated {
@@ -133,7 +133,8 @@ impl Numbered for Rated {
             verdicts: Both {
                 own: setup.by_phases(),
                 library: setup.by_library(),
-            },
+            }
+            .numbered(),
         }))
     }
 }

@@ -11,11 +11,21 @@ use std::alloc::{AllocError, Global};
 use std::{fmt, io};
 
 // A frame as binary digits, bit 0 the lowest.
+#[derive(Clone, Copy, PartialEq)]
+struct Digits(u16);
+
+impl fmt::Debug for Digits {
+    fn fmt<W: fmt::Write>(&self, f: &mut fmt::Formatter<W>) -> fmt::Result {
+        write!(f, "{:b}", self.0)
+    }
+}
+
+// A frame in both emulators.
 #[derive(Clone, Copy)]
 struct Framed {
     shape: Shape,
     character: u16,
-    digits: Both<Result<u16, Refusal>>,
+    frames: Both<Result<Digits, u8>>,
 }
 
 impl Framed {
@@ -23,32 +33,37 @@ impl Framed {
         Framed {
             shape,
             character,
-            digits: Both {
-                own: Ok(digits(shape, character)),
-                library: Format::try_from(shape).map(|format| format.frame(character)),
-            },
+            frames: Both {
+                own: Ok(frame_of(shape, character)),
+                library: Format::try_from(shape).map(|format| Digits(format.frame(character))),
+            }
+            .numbered(),
         }
     }
 }
 
-fn digits(shape: Shape, character: u16) -> u16 {
-    (0..shape.bits()).fold(0u16, |sum, bit| {
+fn frame_of(shape: Shape, character: u16) -> Digits {
+    Digits((0..shape.bits()).fold(0u16, |sum, bit| {
         let level = u16::from(byte_of(shape.level(character, bit)));
         sum.saturating_add(level << (bit % 16))
-    })
+    }))
 }
 
 impl Case for Framed {
     fn is_same(&self) -> bool {
-        self.digits.agree()
+        self.frames.agree()
     }
 }
 
 impl fmt::Display for Framed {
     fn fmt<W: fmt::Write>(&self, f: &mut fmt::Formatter<W>) -> fmt::Result {
         let character = self.character;
-        writeln!(f, "{}, character {character:X}h", self.shape)?;
-        write!(f, "{}", self.digits)
+        writeln!(
+            f,
+            "{}, character {character:X}h, the frame with bit 0 last",
+            self.shape
+        )?;
+        write!(f, "{}", self.frames)
     }
 }
 
@@ -69,26 +84,31 @@ enum Time {
     BreakLength,
 }
 
-// A time on which the two sides differ.
-#[derive(Clone, Copy, Debug)]
+// A time on which the two sides differ, and its place among the times of its kind.
+#[derive(Clone, Copy)]
 struct Odd {
     time: Time,
     place: usize,
-    library: u32,
-    own: u32,
+    numbers: Both<u32>,
+}
+
+impl fmt::Display for Odd {
+    fn fmt<W: fmt::Write>(&self, f: &mut fmt::Formatter<W>) -> fmt::Result {
+        writeln!(f, "  {:?} {}, counted from 0", self.time, self.place)?;
+        write!(f, "{}", self.numbers)
+    }
 }
 
 // The first place below a bound at which the library's number and our own differ.
-fn first_odd<F: Fn(usize) -> (u32, u32)>(time: Time, bound: usize, numbers: F) -> Option<Odd>
+fn first_odd<F: Fn(usize) -> Both<u32>>(time: Time, bound: usize, numbers: F) -> Option<Odd>
     requires { F.IsAlwaysCallable numbers }
 {
     (0..bound).find_map(|place| {
-        let (library, own) = numbers(place);
-        (library != own).then_some(Odd {
+        let numbers = numbers(place);
+        (!numbers.agree()).then_some(Odd {
             time,
             place,
-            library,
-            own,
+            numbers,
         })
     })
 }
@@ -98,7 +118,7 @@ fn first_odd<F: Fn(usize) -> (u32, u32)>(time: Time, bound: usize, numbers: F) -
 pub(crate) struct Timed {
     seed: u16,
     end: End,
-    suits: Both<Result<(), Refusal>>,
+    suits: Both<Result<(), u8>>,
     odd: Option<Odd>,
 }
 
@@ -119,7 +139,8 @@ impl Numbered for Timed {
             suits: Both {
                 own,
                 library: timing.map(|_| ()),
-            },
+            }
+            .numbered(),
             odd: match timing {
                 Ok(timing) if own.is_ok() => odd_time(&end, timing),
                 _ => None,
@@ -133,21 +154,28 @@ fn odd_time(end: &End, timing: Timing) -> Option<Odd> {
     let sender = BareSender::new(timing);
     let receiver = BareReceiver::new(timing);
     let length = |bit: usize| {
-        let own = end
-            .start(bit.saturating_add(1))
-            .saturating_sub(end.start(bit));
-        (sender.bit_length(bit), own)
+        let above = end.start(bit.saturating_add(1));
+        Both {
+            own: above.saturating_sub(end.start(bit)),
+            library: sender.bit_length(bit),
+        }
     };
     let sample = |place: usize| {
         let bit = place / 3;
-        let own = if bit <= end.shape.first_stop() {
-            end.sampled(bit)[place % 3]
-        } else {
-            0
-        };
-        (receiver.sample_clock(place), own)
+        let sampled = bit <= end.shape.first_stop();
+        Both {
+            own: if sampled {
+                end.sampled(bit)[place % 3]
+            } else {
+                0
+            },
+            library: receiver.sample_clock(place),
+        }
     };
-    let pause = |_: usize| (timing.break_length, end.gear.break_length());
+    let pause = |_: usize| Both {
+        own: end.gear.break_length(),
+        library: timing.break_length,
+    };
     first_odd(Time::BitLength, 14, length)
         .or_else(|| first_odd(Time::SampleClock, 37, sample))
         .or_else(|| first_odd(Time::BreakLength, 1, pause))
@@ -162,12 +190,9 @@ impl Case for Timed {
 impl fmt::Display for Timed {
     fn fmt<W: fmt::Write>(&self, f: &mut fmt::Formatter<W>) -> fmt::Result {
         let seed = self.seed;
-        writeln!(
-            f,
-            "seed {seed}, {}, {:?}: {:?}",
-            self.end.shape, self.end.gear, self.odd
-        )?;
-        write!(f, "{}", self.suits)
+        writeln!(f, "seed {seed}, {}", self.end)?;
+        write!(f, "{}", self.suits)?;
+        self.odd.map_or(Ok(()), |odd| write!(f, "{odd}"))
     }
 }
 

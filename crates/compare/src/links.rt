@@ -4,7 +4,7 @@ use super::dice::Dice;
 use super::hearing::{Entry, heard};
 use super::inbox::Inbox;
 use super::levels::byte_of;
-use super::said::{Answer, Both, Said};
+use super::said::{Answer, Answers, Said, numbered};
 use super::schedule::Schedule;
 use super::tally::{Case, Numbered};
 use super::times::Pair;
@@ -192,7 +192,7 @@ pub(crate) struct Linked {
     seed: u16,
     setup: Setup,
     acts: Vec<Act>,
-    answers: Both<Vec<Answer>>,
+    answers: Answers,
 }
 
 impl Numbered for Linked {
@@ -203,10 +203,9 @@ impl Numbered for Linked {
             return Ok(None);
         };
         let acts = some_acts(heap, &mut dice, &setup.pair)?;
-        let answers = Both {
-            own: by_times(heap, &setup, acts.as_slice())?,
-            library: by_library(heap, &setup, from, to, acts.as_slice())?,
-        };
+        let own = by_times(heap, &setup, acts.as_slice())?;
+        let library = by_library(heap, &setup, from, to, acts.as_slice())?;
+        let answers = numbered(heap, own.as_slice(), library.as_slice())?;
         Ok(Some(Linked {
             seed,
             setup,
@@ -243,7 +242,11 @@ impl fmt::Display for Linked {
             receive_queues,
         } = self.setup;
         writeln!(f, "seed {seed}, {pair}")?;
-        write!(f, "  {send_queues} and {receive_queues} queues, acts ")?;
+        writeln!(
+            f,
+            "  queues: {send_queues} at the sender, {receive_queues} at the receiver"
+        )?;
+        write!(f, "  acts ")?;
         for act in self.acts.iter() {
             write_act(f, *act)?;
         }

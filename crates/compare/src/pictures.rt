@@ -55,7 +55,8 @@ pub(crate) struct Drawn {
     seed: u16,
     end: End,
     characters: Vec<u16>,
-    clocks: Both<Result<usize, Refusal>>,
+    places: usize,
+    clocks: Both<Result<usize, u8>>,
     pictures: Both<Vec<u8>>,
 }
 
@@ -75,11 +76,13 @@ impl Numbered for Drawn {
         let clocks = Both {
             own: by_levels(&end, characters.as_slice(), own.as_mut_slice()),
             library: draw(&timing, characters.as_slice(), library.as_mut_slice()),
-        };
+        }
+        .numbered();
         Ok(Some(Drawn {
             seed,
             end,
             characters,
+            places,
             clocks,
             pictures: Both { own, library },
         }))
@@ -88,18 +91,30 @@ impl Numbered for Drawn {
 
 impl Case for Drawn {
     fn is_same(&self) -> bool {
-        self.clocks.agree() && self.pictures.own == self.pictures.library
+        self.clocks.agree() && self.pictures.difference().is_none()
     }
 }
 
 impl fmt::Display for Drawn {
     fn fmt<W: fmt::Write>(&self, f: &mut fmt::Formatter<W>) -> fmt::Result {
-        let seed = self.seed;
+        let Drawn {
+            seed,
+            end,
+            places,
+            ..
+        } = self;
+        let characters = &self.characters;
         writeln!(
             f,
-            "seed {seed}, {}, characters {:?}",
-            self.end, self.characters
+            "seed {seed}, {end}, characters {characters:?}, {places} places"
         )?;
-        write!(f, "{}{}", self.clocks, self.pictures)
+        write!(f, "{}", self.clocks)?;
+        if let Some(clock) = self.pictures.difference() {
+            writeln!(
+                f,
+                "  the pictures, which differ at clock {clock}, counted from 0"
+            )?;
+        }
+        write!(f, "{}", self.pictures)
     }
 }

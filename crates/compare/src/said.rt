@@ -1,6 +1,7 @@
 // What a call answers, as both emulators tell it.
 use super::hearing::Entry;
 use line::{Level, Refusal};
+use std::alloc::{AllocError, Global};
 use std::fmt;
 
 #[derive(Clone, Copy, PartialEq, Debug)]
@@ -40,14 +41,19 @@ pub(crate) struct Both<T> {
     pub(crate) library: T,
 }
 
-impl<T: PartialEq> Both<Result<T, Refusal>> {
-    // Whether they say the same, a refusal by its number.
-    pub(crate) fn agree(&self) -> bool {
-        match (&self.own, &self.library) {
-            (Ok(mine), Ok(theirs)) => mine == theirs,
-            (Err(mine), Err(theirs)) => number(*mine) == u8::from(*theirs),
-            _ => false,
+impl<T> Both<Result<T, Refusal>> {
+    // The same with the numbers of the refusals, which each side has from its own table.
+    pub(crate) fn numbered(self) -> Both<Result<T, u8>> {
+        Both {
+            own: self.own.map_err(number),
+            library: self.library.map_err(u8::from),
         }
+    }
+}
+
+impl<T: PartialEq> Both<T> {
+    pub(crate) fn agree(&self) -> bool {
+        self.own == self.library
     }
 }
 
@@ -58,26 +64,43 @@ impl<T: fmt::Debug> fmt::Display for Both<T> {
     }
 }
 
-// Two lists of answers.
-impl Both<Vec<Answer>> {
-    // The first place where they differ, if there is one.
+// Two lists.
+impl<T: PartialEq + Copy> Both<Vec<T>> {
+    // The first place where they differ, counted from 0, if there is one.
     pub(crate) fn difference(&self) -> Option<usize> {
-        let own = self.own.iter();
         let shorter = self.own.len().min(self.library.len());
-        own.zip(self.library.iter())
-            .position(|(own, library)| !Both {
-                own: *own,
-                library: *library,
-            }
-            .agree())
+        self.own
+            .iter()
+            .zip(self.library.iter())
+            .position(|(own, library)| own != library)
             .or((self.own.len() != self.library.len()).then_some(shorter))
     }
 
-    // What each says at a place.
-    pub(crate) fn at(&self, place: usize) -> Both<Option<Answer>> {
+    // What stands in each at a place.
+    pub(crate) fn at(&self, place: usize) -> Both<Option<T>> {
         Both {
             own: self.own.get(place).copied(),
             library: self.library.get(place).copied(),
         }
     }
+}
+
+// The answers to a list of calls, with the numbers of the refusals.
+pub(crate) type Answers = Both<Vec<Result<Said, u8>>>;
+
+pub(crate) fn numbered(
+    heap: Global,
+    own: &[Answer],
+    library: &[Answer],
+) -> Result<Answers, AllocError> {
+    Ok(Both {
+        own: own
+            .iter()
+            .map(|answer| answer.map_err(number))
+            .collect(heap)?,
+        library: library
+            .iter()
+            .map(|answer| answer.map_err(u8::from))
+            .collect(heap)?,
+    })
 }

@@ -133,7 +133,7 @@ pub(crate) struct Scanned {
     seed: u16,
     end: End,
     picture: Vec<u8>,
-    counts: Both<Result<usize, Refusal>>,
+    counts: Both<Result<usize, u8>>,
     lists: Both<Vec<(u16, u8)>>,
 }
 
@@ -151,7 +151,8 @@ impl Numbered for Scanned {
         let counts = Both {
             own: listed(picture.as_slice(), arrivals.as_slice(), own.as_mut_slice()),
             library: scan(&timing, picture.as_slice(), library.as_mut_slice()),
-        };
+        }
+        .numbered();
         Ok(Some(Scanned {
             seed,
             end,
@@ -164,7 +165,7 @@ impl Numbered for Scanned {
 
 impl Case for Scanned {
     fn is_same(&self) -> bool {
-        self.counts.agree() && self.lists.own == self.lists.library
+        self.counts.agree() && self.lists.difference().is_none()
     }
 }
 
@@ -172,6 +173,13 @@ impl fmt::Display for Scanned {
     fn fmt<W: fmt::Write>(&self, f: &mut fmt::Formatter<W>) -> fmt::Result {
         let seed = self.seed;
         writeln!(f, "seed {seed}, {}, picture {:?}", self.end, self.picture)?;
-        write!(f, "{}{}", self.counts, self.lists)
+        write!(f, "{}", self.counts)?;
+        if let Some(place) = self.lists.difference() {
+            writeln!(
+                f,
+                "  the lists, which differ at entry {place}, counted from 0"
+            )?;
+        }
+        write!(f, "{}", self.lists)
     }
 }
