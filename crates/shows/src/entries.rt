@@ -1,13 +1,25 @@
 // The entries that come of a scan or over a link, for a person to read.
+ghost use Rattle.std.specs.Prelude.{◌≡◌, MatchOption, if◌then◌else◌};
+ghost use Rattle.std.specs.Int.{IsInRange, is_in_range, IsOutOfRange};
+
 use super::flags::Flags;
 use std::io;
 
+// The character that a byte stands for, if it can be printed.
+pub(crate) fn printable(byte: u8) -> Option<char>
+    ensures { MatchOption result (IsOutOfRange 0x20 0x7e byte) (λ shown. IsInRange 0x20 0x7e byte × (shown ≡ byte)) }
+{
+    (byte == b' ' || byte.is_ascii_graphic()).then_some(char::from(byte))
+}
+
 // A character as a person reads it: itself where it can be printed, and a dot where not.
-pub fn readable(character: u16) -> char {
+pub fn readable(character: u16) -> char
+    ensures { result ≡ (if is_in_range 0x20 0x7e character then character else 0x2e) }
+{
     u8::try_from(character)
         .ok()
-        .filter(|byte| matches!(byte, 0x20..=0x7e))
-        .map_or('.', char::from)
+        .and_then(printable)
+        .unwrap_or('.')
 }
 
 // How many entries carry a flag.

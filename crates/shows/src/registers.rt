@@ -1,40 +1,18 @@
 // A register's address and byte as a person reads them: its name, and the names of the bits that are set.
 use super::bits::SetBits;
+use super::entries::printable;
 use chip::address::{UBR0, UBR1, UCTL, UMCTL, URCTL, URXBUF, UTCTL, UTXBUF};
-use std::fmt;
+use std::{array, fmt};
 
-// The bits of a control register, each with its name.
-const UCTL_BITS: [(u8, &str); 8] = [
-    (0x80, "PENA"),
-    (0x40, "PEV"),
-    (0x20, "SP"),
-    (0x10, "CHAR"),
-    (0x08, "Listen"),
-    (0x04, "SYNC"),
-    (0x02, "MM"),
-    (0x01, "SWRST"),
+// The bits of each control register by name, bit 7 first.
+const UCTL_BITS: [&str; 8] = ["PENA", "PEV", "SP", "CHAR", "Listen", "SYNC", "MM", "SWRST"];
+
+const UTCTL_BITS: [&str; 8] = [
+    "bit 7", "CKPL", "SSEL1", "SSEL0", "URXSE", "TXWake", "bit 1", "TXEPT",
 ];
 
-const UTCTL_BITS: [(u8, &str); 8] = [
-    (0x80, "bit 7"),
-    (0x40, "CKPL"),
-    (0x20, "SSEL1"),
-    (0x10, "SSEL0"),
-    (0x08, "URXSE"),
-    (0x04, "TXWake"),
-    (0x02, "bit 1"),
-    (0x01, "TXEPT"),
-];
-
-const URCTL_BITS: [(u8, &str); 8] = [
-    (0x80, "FE"),
-    (0x40, "PE"),
-    (0x20, "OE"),
-    (0x10, "BRK"),
-    (0x08, "URXEIE"),
-    (0x04, "URXWIE"),
-    (0x02, "RXWake"),
-    (0x01, "RXERR"),
+const URCTL_BITS: [&str; 8] = [
+    "FE", "PE", "OE", "BRK", "URXEIE", "URXWIE", "RXWake", "RXERR",
 ];
 
 #[derive(Clone, Copy)]
@@ -43,6 +21,9 @@ pub struct Register {
     pub value: u8,
 }
 
+// Two matches and no table of (address, name, meaning): with a variant that holds the names of the bits, as `Bits([&str; 8])`,
+// the proof of `fmt` does not close, since the borrow checker does not cover it. Firmware may write to any address, so both
+// have an arm for one that is no register's.
 impl Register {
     fn name(self) -> &'static str {
         match self.address {
@@ -59,39 +40,40 @@ impl Register {
     }
 }
 
-fn write_bits<W: fmt::Write>(
-    byte: u8,
-    names: &[(u8, &str)],
-    f: &mut fmt::Formatter<W>,
-) -> fmt::Result {
+fn write_bits<W: fmt::Write>(byte: u8, names: [&str; 8], f: &mut fmt::Formatter<W>) -> fmt::Result {
     if byte == 0 {
-        return f.write_str(" no bit set");
+        return f.write_str("no bit set");
     }
+    let named: [(u8, &str); 8] = array::from_fn(|place| (0x80 >> place, names[place]));
     let set = SetBits {
         byte,
-        names,
+        names: &named,
         between: " ",
     };
-    write!(f, " {set}")
+    write!(f, "{set}")
+}
+
+fn write_character<W: fmt::Write>(byte: u8, f: &mut fmt::Formatter<W>) -> fmt::Result {
+    match printable(byte) {
+        Some(character) => write!(f, "'{character}'"),
+        None => f.write_str("not a letter"),
+    }
 }
 
 impl fmt::Display for Register {
     fn fmt<W: fmt::Write>(&self, f: &mut fmt::Formatter<W>) -> fmt::Result {
         let Register { address, value } = *self;
         let name = self.name();
-        write!(f, "{address:02X}h {name:<7}   {value:02X}h ")?;
+        write!(f, "{address:02X}h {name:<7}   {value:02X}h  ")?;
         match address {
-            UCTL => write_bits(value, &UCTL_BITS, f),
-            UTCTL => write_bits(value, &UTCTL_BITS, f),
-            URCTL => write_bits(value, &URCTL_BITS, f),
-            URXBUF..=UTXBUF => match value {
-                0x20..=0x7e => write!(f, " '{}'", char::from(value)),
-                _ => f.write_str(" not a letter"),
-            },
-            UMCTL => f.write_str(" modulator"),
-            UBR0 => f.write_str(" divider, low byte"),
-            UBR1 => f.write_str(" divider, high byte"),
-            _ => f.write_str(" no register"),
+            UCTL => write_bits(value, UCTL_BITS, f),
+            UTCTL => write_bits(value, UTCTL_BITS, f),
+            URCTL => write_bits(value, URCTL_BITS, f),
+            URXBUF | UTXBUF => write_character(value, f),
+            UMCTL => f.write_str("modulator"),
+            UBR0 => f.write_str("divider, low byte"),
+            UBR1 => f.write_str("divider, high byte"),
+            _ => f.write_str("no register"),
         }
     }
 }
