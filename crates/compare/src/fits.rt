@@ -41,12 +41,12 @@ impl Clocks {
             // the start bit came and went between two receive clocks
             return Some(Verdict::Late(bit));
         }
-        let samples = pair.receiver.sampled(bit);
+        let [earliest, _, latest] = pair.receiver.sampled(bit);
         let sampled = |clock: u32| self.sent(edge.saturating_add(u64::from(clock)));
-        if sampled(samples[0]) < start(bit) {
+        if sampled(earliest) < start(bit) {
             return Some(Verdict::Early(bit));
         }
-        if sampled(samples[2]) >= start(bit.saturating_add(1)) {
+        if sampled(latest) >= start(bit.saturating_add(1)) {
             return Some(Verdict::Late(bit));
         }
         None

@@ -49,9 +49,9 @@ fn next_edge(levels: &[Level], from: usize) -> Option<usize> {
 // The majority of the levels at three clocks after an edge, if all of them are there.
 fn vote(levels: &[Level], edge: usize, samples: [u32; 3]) -> Option<Level> {
     let at = |sample: u32| levels.get(edge.saturating_add(sample as usize)).copied();
-    let first = at(samples[0])?;
-    let second = at(samples[1])?;
-    let third = at(samples[2])?;
+    let [Some(first), Some(second), Some(third)] = samples.map(at) else {
+        return None;
+    };
     Some(if first == second || first == third {
         first
     } else {
@@ -94,7 +94,7 @@ fn taken_down(end: &End, bits: &[Level; 12]) -> Entry {
 // None where the levels end before the frame does.
 fn after_edge(end: &End, levels: &[Level], edge: usize) -> Option<Seen> {
     if vote(levels, edge, end.sampled(0))? == Level::Mark {
-        let last = edge.saturating_add(end.sampled(0)[2] as usize);
+        let last = edge.saturating_add(end.last_sample(0) as usize);
         return Some(Seen::FalseStart { last });
     }
     let stop = end.shape.first_stop();
@@ -104,7 +104,7 @@ fn after_edge(end: &End, levels: &[Level], edge: usize) -> Option<Seen> {
         *bit = vote(levels, edge, *samples)?;
     }
     Some(Seen::Frame(Arrival {
-        clock: edge.saturating_add(end.sampled(stop)[2] as usize),
+        clock: edge.saturating_add(end.last_sample(stop) as usize),
         entry: taken_down(end, &bits),
     }))
 }

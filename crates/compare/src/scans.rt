@@ -52,7 +52,7 @@ fn runs(heap: Global, dice: &mut Dice, longest: u16) -> Result<Vec<u8>, AllocErr
 // Long spaces with short marks between them: some reach just to a frame's last sample, some are about as long as a break.
 fn breaks(heap: Global, end: &End, dice: &mut Dice) -> Result<Vec<u8>, AllocError> {
     let mut picture = Vec::new(heap);
-    let to_stop = end.sampled(end.shape.first_stop())[2];
+    let to_stop = end.last_sample(end.shape.first_stop());
     let to_break = to_stop.saturating_add(end.gear.break_length());
     for _ in 0..dice.below(4).saturating_add(2) {
         let few = u32::from(dice.below(3));

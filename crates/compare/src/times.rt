@@ -114,6 +114,11 @@ impl End {
         self.samples.get(bit).copied().unwrap_or([0; 3])
     }
 
+    pub(crate) fn last_sample(&self, bit: usize) -> u32 {
+        let [_, _, last] = self.sampled(bit);
+        last
+    }
+
     // The level at a clock of the frame of a character, mark past its end.
     pub(crate) fn level(&self, character: u16, clock: u32) -> Level {
         let ends = self.starts.iter().skip(1);
