@@ -12,6 +12,7 @@ pub(crate) struct SetBits<'a> {
 
 impl<'a> fmt::Display for SetBits<'a> {
     fn fmt<W: fmt::Write>(&self, f: &mut fmt::Formatter<W>) -> fmt::Result {
+        // no `join`: it would make a text on the heap
         let set = self.names.iter().filter(|(bit, _)| self.byte & bit != 0);
         for (i, (_, name)) in set.enumerate() {
             if i > 0 {

@@ -95,7 +95,8 @@ impl<'a> Drawn<'a> {
         let characters = self.record.len();
         let one = characters / 3;
         let to = one.saturating_add(1).saturating_mul(clocks);
-        let from = to.saturating_sub(self.timing.lengths[9] as usize);
+        let stop = self.timing.lengths[self.timing.format.first_stop()];
+        let from = to.saturating_sub(stop as usize);
         hold_space(self.picture.as_mut_slice(), from, to);
         println!(rt;
             "Spoiled: clocks {from} to {to} held at space, the stop bit of character {}",
