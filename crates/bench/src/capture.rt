@@ -1,6 +1,6 @@
 // A capture of a line, of any length, scanned piece by piece.
 use super::lines::chosen;
-use super::options::{Takes, Words};
+use super::options::Given;
 use anyhow::{Context, anyhow, bail, ensure};
 use ends::Timing;
 use picture::Scanner;
@@ -9,10 +9,9 @@ use std::fs::File;
 use std::io;
 use std::io::Read;
 use std::rt::Files;
-use std::str::FromStr;
+use words::{FoundStyle, Takes, found_style_named};
 
-const TAKES: Takes = Takes {
-    command: "scan",
+const TAKES: Takes<'static> = Takes {
     options: &["--format", "--divider", "--modulator", "--as"],
     others: 1,
 };
@@ -31,41 +30,18 @@ brackets, or one to a line in hexadecimal or decimal. It reads the file, or
 standard input without one, in pieces, so a capture may have any length. Without
 settings it takes those of the lock.";
 
-#[derive(Clone, Copy, Default)]
-enum Style {
-    #[default]
-    Text,
-    Hex,
-    Decimal,
-}
-
-impl FromStr for Style {
-    type Err = anyhow::Error;
-
-    fn from_str(word: &str) -> anyhow::Result<Style> {
-        match word {
-            "text" => Ok(Style::Text),
-            "hex" => Ok(Style::Hex),
-            "decimal" => Ok(Style::Decimal),
-            _ => bail!("--as: '{word}' is none of text, hex and decimal"),
-        }
+fn print_entry(rt: &impl Print, style: FoundStyle, (character, bits): (u16, u8)) -> io::Result<()> {
+    match style {
+        FoundStyle::Text => print!(rt; "{}", readable(character))?,
+        FoundStyle::Hex => print!(rt; "{character:02X}h")?,
+        FoundStyle::Decimal => print!(rt; "{character}")?,
     }
-}
-
-impl Style {
-    fn print_entry(self, rt: &impl Print, (character, bits): (u16, u8)) -> io::Result<()> {
-        match self {
-            Style::Text => print!(rt; "{}", readable(character))?,
-            Style::Hex => print!(rt; "{character:02X}h")?,
-            Style::Decimal => print!(rt; "{character}")?,
-        }
-        let flags = Flags(bits);
-        match (self, bits) {
-            (Style::Text, 0) => Ok(()),
-            (Style::Text, _) => print!(rt; "[{flags}]"),
-            (_, 0) => println!(rt; ""),
-            (_, _) => println!(rt; "  {flags}"),
-        }
+    let flags = Flags(bits);
+    match (style, bits) {
+        (FoundStyle::Text, 0) => Ok(()),
+        (FoundStyle::Text, _) => print!(rt; "[{flags}]"),
+        (_, 0) => println!(rt; ""),
+        (_, _) => println!(rt; "  {flags}"),
     }
 }
 
@@ -122,7 +98,7 @@ fn tell_progress(rt: &impl Eprint, before: u64, after: u64) -> io::Result<()> {
 fn scan_capture<I: Read>(
     rt: &(impl Print + Eprint + AllocGlobal),
     timing: &Timing,
-    style: Style,
+    style: FoundStyle,
     input: &mut I,
 ) -> anyhow::Result<u64> {
     let mut buffer = vec![in rt.alloc(); 0; PIECE]?;
@@ -133,12 +109,12 @@ fn scan_capture<I: Read>(
             .scan(piece, entries.as_mut_slice())
             .map_err(|_| anyhow!("a piece of the capture has too many entries"))?;
         for entry in entries.as_slice().iter().take(found) {
-            style.print_entry(rt, *entry)?;
+            print_entry(rt, style, *entry)?;
         }
         tell_progress(rt, before, before.saturating_add(piece.len() as u64))?;
         Ok(())
     })?;
-    if let Style::Text = style
+    if let FoundStyle::Text = style
         && bytes > 0
     {
         println!(rt; "")?;
@@ -149,7 +125,7 @@ fn scan_capture<I: Read>(
 fn scan_file(
     rt: &(impl Files + Print + Eprint + AllocGlobal),
     timing: &Timing,
-    style: Style,
+    style: FoundStyle,
     name: &str,
 ) -> anyhow::Result<()> {
     let mut first = File::open(rt, name).context(format_args!("cannot open the file '{name}'"))?;
@@ -166,8 +142,8 @@ pub(crate) fn command(
     rt: &(impl Files + Input + Print + Eprint + AllocGlobal),
     words: &[String],
 ) -> anyhow::Result<()> {
-    let words = Words::parse(rt.alloc(), TAKES, words)?;
-    let style: Style = words.parsed("--as")?;
+    let words = Given::new("scan", TAKES, words)?;
+    let style = words.style(found_style_named, "text, hex and decimal")?;
     let timing = chosen(&words)?;
     if let Some(name) = words.other(0) {
         return scan_file(rt, &timing, style, name);

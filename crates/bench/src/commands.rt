@@ -1,14 +1,13 @@
-// The commands of the bench, each by its word, and what it does.
-use super::options::{Takes, Words};
+// What each command of the bench does, and its help.
+use super::options::Given;
 use super::{capture, drawing, fitting, settings_sheet};
-use anyhow::bail;
+use anyhow::{Context, bail};
 use shows::SAMPLE;
 use std::rt::Files;
-use std::str::FromStr;
+use words::{Command, Takes, command_named};
 
 // What a command without options takes.
-pub(crate) const PLAIN: Takes = Takes {
-    command: "",
+pub(crate) const PLAIN: Takes<'static> = Takes {
     options: &[],
     others: 0,
 };
@@ -50,72 +49,46 @@ const CHIP_HELP: &str = "usage: bench chip
 Sets a chip up register by register, as firmware does, releases it, and has it hear
 a character of its own; each access to a register is shown.";
 
-#[derive(Clone, Copy)]
-pub(crate) enum Command {
-    Sheet,
-    Fit,
-    Draw,
-    Scan,
-    Table,
-    Demo,
-    Link,
-    Chip,
+pub(crate) fn command_given(word: &str) -> anyhow::Result<Command> {
+    command_named(word).context(format_args!(
+        "unknown word '{word}'; 'bench --help' says which there are"
+    ))
 }
 
-impl FromStr for Command {
-    type Err = anyhow::Error;
-
-    fn from_str(word: &str) -> anyhow::Result<Command> {
-        match word {
-            "sheet" => Ok(Command::Sheet),
-            "fit" => Ok(Command::Fit),
-            "draw" => Ok(Command::Draw),
-            "scan" => Ok(Command::Scan),
-            "table" => Ok(Command::Table),
-            "demo" => Ok(Command::Demo),
-            "link" => Ok(Command::Link),
-            "chip" => Ok(Command::Chip),
-            _ => bail!("unknown word '{word}'; 'bench --help' says which there are"),
-        }
+pub(crate) fn help(command: Command) -> &'static str {
+    match command {
+        Command::Sheet => settings_sheet::HELP,
+        Command::Fit => fitting::HELP,
+        Command::Draw => drawing::HELP,
+        Command::Scan => capture::HELP,
+        Command::Table => TABLE_HELP,
+        Command::Demo => DEMO_HELP,
+        Command::Link => LINK_HELP,
+        Command::Chip => CHIP_HELP,
     }
 }
 
-impl Command {
-    pub(crate) fn help(self) -> &'static str {
-        match self {
-            Command::Sheet => settings_sheet::HELP,
-            Command::Fit => fitting::HELP,
-            Command::Draw => drawing::HELP,
-            Command::Scan => capture::HELP,
-            Command::Table => TABLE_HELP,
-            Command::Demo => DEMO_HELP,
-            Command::Link => LINK_HELP,
-            Command::Chip => CHIP_HELP,
+// Does what a command is for, with the words behind it.
+pub(crate) fn run(
+    rt: &(impl Files + Input + Print + Eprint + AllocGlobal),
+    command: Command,
+    words: &[String],
+) -> anyhow::Result<()> {
+    match command {
+        Command::Sheet => settings_sheet::command(rt, words),
+        Command::Fit => fitting::command(rt, words),
+        Command::Draw => drawing::command(rt, words),
+        Command::Scan => capture::command(rt, words),
+        Command::Table => {
+            Given::new("table", PLAIN, words)?;
+            Ok(shows::print_table(rt)?)
         }
-    }
-
-    // Does what the command is for, with the words behind it.
-    pub(crate) fn run(
-        self,
-        rt: &(impl Files + Input + Print + Eprint + AllocGlobal),
-        words: &[String],
-    ) -> anyhow::Result<()> {
-        match self {
-            Command::Sheet => settings_sheet::command(rt, words),
-            Command::Fit => fitting::command(rt, words),
-            Command::Draw => drawing::command(rt, words),
-            Command::Scan => capture::command(rt, words),
-            Command::Table => {
-                Words::parse(rt.alloc(), PLAIN, words)?;
-                Ok(shows::print_table(rt)?)
-            }
-            Command::Chip => {
-                Words::parse(rt.alloc(), PLAIN, words)?;
-                Ok(shows::drive(rt)?)
-            }
-            Command::Demo => shows::demo(rt, record(words)?),
-            Command::Link => shows::join(rt, record(words)?),
+        Command::Chip => {
+            Given::new("chip", PLAIN, words)?;
+            Ok(shows::drive(rt)?)
         }
+        Command::Demo => shows::demo(rt, record(words)?),
+        Command::Link => shows::join(rt, record(words)?),
     }
 }
 

@@ -1,16 +1,15 @@
 // Text drawn as a sender puts it on the line: as bytes, as runs of equal levels, or as a file for a waveform viewer.
 use super::lines::chosen;
-use super::options::{Takes, Words};
-use anyhow::{anyhow, bail, ensure};
+use super::options::Given;
+use anyhow::{anyhow, ensure};
 use ends::Timing;
 use picture::{Run, Runs, draw};
 use shows::level_name;
 use std::io;
 use std::io::Write;
-use std::str::FromStr;
+use words::{PictureStyle, Takes, picture_style_named};
 
-const TAKES: Takes = Takes {
-    command: "draw",
+const TAKES: Takes<'static> = Takes {
     options: &["--format", "--divider", "--modulator", "--as"],
     others: 1,
 };
@@ -33,58 +32,35 @@ $var wire 1 ! line $end
 $upscope $end
 $enddefinitions $end";
 
-#[derive(Clone, Copy, Default)]
-enum Style {
-    #[default]
-    Runs,
-    Bytes,
-    Vcd,
-}
-
-impl FromStr for Style {
-    type Err = anyhow::Error;
-
-    fn from_str(word: &str) -> anyhow::Result<Style> {
-        match word {
-            "runs" => Ok(Style::Runs),
-            "bytes" => Ok(Style::Bytes),
-            "vcd" => Ok(Style::Vcd),
-            _ => bail!("--as: '{word}' is none of runs, bytes and vcd"),
-        }
+fn write_head(rt: &impl Print, style: PictureStyle) -> io::Result<()> {
+    match style {
+        PictureStyle::Runs => println!(rt; "  from clock  level    clocks"),
+        PictureStyle::Vcd => rt.println(VCD_HEAD),
+        PictureStyle::Bytes => Ok(()),
     }
 }
 
-impl Style {
-    fn write_head(self, rt: &impl Print) -> io::Result<()> {
-        match self {
-            Style::Runs => println!(rt; "  from clock  level    clocks"),
-            Style::Vcd => rt.println(VCD_HEAD),
-            Style::Bytes => Ok(()),
-        }
+// Writes what has been drawn of a frame that begins with this clock. It begins with space and ends with mark, so
+// no run goes on in the next.
+fn write_frame(rt: &impl Print, style: PictureStyle, begin: u64, frame: &[u8]) -> io::Result<()> {
+    if let PictureStyle::Bytes = style {
+        return io::writer(rt).write_all(frame);
     }
-
-    // Writes what has been drawn of a frame that begins with this clock. It begins with space and ends with mark, so
-    // no run goes on in the next.
-    fn write_frame(self, rt: &impl Print, begin: u64, frame: &[u8]) -> io::Result<()> {
-        if let Style::Bytes = self {
-            return io::writer(rt).write_all(frame);
-        }
-        for run in Runs::new(frame) {
-            self.write_run(rt, begin.saturating_add(run.from as u64), run)?;
-        }
-        Ok(())
+    for run in Runs::new(frame) {
+        write_run(rt, style, begin.saturating_add(run.from as u64), run)?;
     }
+    Ok(())
+}
 
-    fn write_run(self, rt: &impl Print, from: u64, run: Run) -> io::Result<()> {
-        match self {
-            Style::Runs => println!(rt;
-                "  {from:>10}  {:<5}  {:>8}",
-                level_name(run.level()),
-                run.clocks
-            ),
-            Style::Vcd => println!(rt; "#{from}\n{}!", run.byte),
-            Style::Bytes => Ok(()),
-        }
+fn write_run(rt: &impl Print, style: PictureStyle, from: u64, run: Run) -> io::Result<()> {
+    match style {
+        PictureStyle::Runs => println!(rt;
+            "  {from:>10}  {:<5}  {:>8}",
+            level_name(run.level()),
+            run.clocks
+        ),
+        PictureStyle::Vcd => println!(rt; "#{from}\n{}!", run.byte),
+        PictureStyle::Bytes => Ok(()),
     }
 }
 
@@ -104,26 +80,26 @@ fn draw_character<'a>(
 fn draw_text(
     rt: &(impl Print + AllocGlobal),
     timing: &Timing,
-    style: Style,
+    style: PictureStyle,
     text: &str,
 ) -> anyhow::Result<()> {
     let mut frame = vec![in rt.alloc(); 0; MOST_CLOCKS]?;
     let mut begin = 0u64;
-    style.write_head(rt)?;
+    write_head(rt, style)?;
     for character in text.bytes() {
         let drawn = draw_character(timing, character, frame.as_mut_slice())?;
-        style.write_frame(rt, begin, drawn)?;
+        write_frame(rt, style, begin, drawn)?;
         begin = begin.saturating_add(drawn.len() as u64);
     }
-    if let Style::Vcd = style {
+    if let PictureStyle::Vcd = style {
         println!(rt; "#{begin}")?;
     }
     Ok(())
 }
 
 pub(crate) fn command(rt: &(impl Print + AllocGlobal), words: &[String]) -> anyhow::Result<()> {
-    let words = Words::parse(rt.alloc(), TAKES, words)?;
-    let style: Style = words.parsed("--as")?;
+    let words = Given::new("draw", TAKES, words)?;
+    let style = words.style(picture_style_named, "runs, bytes and vcd")?;
     let timing = chosen(&words)?;
     let text = words.needed(0, "text")?;
     // a wide character is found before anything is written

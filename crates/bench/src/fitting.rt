@@ -1,15 +1,15 @@
 // Whether one pair of ends fits at a pair of rates.
 use super::lines::end_named;
-use super::options::{Takes, Words, number};
+use super::options::{Given, number};
 use anyhow::bail;
 use line::Refusal;
 use link::Verdict;
 use sheet::{Clocked, Off, Way};
 use std::alloc::Global;
 use std::io;
+use words::Takes;
 
-const TAKES: Takes = Takes {
-    command: "fit",
+const TAKES: Takes<'static> = Takes {
     options: &["--format"],
     others: 4,
 };
@@ -32,7 +32,7 @@ fn print_range(rt: &impl Print, whose: &str, way: Way, off: Off) -> io::Result<(
 }
 
 // The way that the words name.
-fn way_named(alloc: Global, words: &Words) -> anyhow::Result<Way> {
+fn way_named(alloc: Global, words: &Given) -> anyhow::Result<Way> {
     let format = words.format()?;
     let from = Clocked {
         timing: end_named(alloc, format, words.needed(0, "sender")?)?,
@@ -65,7 +65,7 @@ fn print_verdict(rt: &impl Print, way: Way) -> anyhow::Result<()> {
 }
 
 pub(crate) fn command(rt: &(impl Print + AllocGlobal), words: &[String]) -> anyhow::Result<()> {
-    let words = Words::parse(rt.alloc(), TAKES, words)?;
+    let words = Given::new("fit", TAKES, words)?;
     let way = way_named(rt.alloc(), &words)?;
     print_verdict(rt, way)
 }

@@ -1,5 +1,5 @@
 // The ends that a person names, and the options that set one.
-use super::options::{Words, number};
+use super::options::{Given, number};
 use anyhow::bail;
 use ends::Timing;
 use line::Format;
@@ -22,7 +22,7 @@ pub(crate) fn end_named(alloc: Global, format: Format, name: &str) -> anyhow::Re
 }
 
 // The times that --format, --divider and --modulator set, or those of the lock's port.
-pub(crate) fn chosen(words: &Words) -> anyhow::Result<Timing> {
+pub(crate) fn chosen(words: &Given) -> anyhow::Result<Timing> {
     let format = words.format()?;
     let divider = words.number("--divider", u32::from(DIVIDER))?;
     let modulator = words.number("--modulator", u32::from(MODULATOR))?;

@@ -10,8 +10,8 @@ mod lines;
 mod options;
 mod settings_sheet;
 
-use commands::{Command, HELP, PLAIN};
-use options::Words;
+use commands::{HELP, PLAIN, command_given, help};
+use options::Given;
 use shows::SAMPLE;
 use std::env;
 use std::process::ExitCode;
@@ -32,14 +32,14 @@ fn start(rt: &HostRuntime) -> anyhow::Result<()> {
     };
     let asks_help = rest.first().is_some_and(|word| word.as_str() == "--help");
     if word.as_str() == "--help" && !asks_help {
-        Words::parse(rt.alloc(), PLAIN, rest)?;
+        Given::new("", PLAIN, rest)?;
         return Ok(rt.println(HELP)?);
     }
-    let command: Command = word.as_str().parse()?;
+    let command = command_given(word.as_str())?;
     if asks_help {
-        return Ok(rt.println(command.help())?);
+        return Ok(rt.println(help(command))?);
     }
-    command.run(rt, rest)
+    commands::run(rt, command, rest)
 }
 
 // What bench prints when it is given no word.

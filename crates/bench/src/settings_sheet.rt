@@ -1,10 +1,10 @@
 // The settings sheet, for the laptop and the format that the words name.
-use super::options::{Takes, Words};
+use super::options::Given;
 use anyhow::ensure;
 use shows::{LAPTOP_HERTZ, print_sheet};
+use words::Takes;
 
-const TAKES: Takes = Takes {
-    command: "sheet",
+const TAKES: Takes<'static> = Takes {
     options: &["--laptop", "--format"],
     others: 0,
 };
@@ -16,7 +16,7 @@ laptop's port may be trusted with it. --laptop is the rate of the clock of the
 laptop's port, 1843200 Hz if it is not given.";
 
 pub(crate) fn command(rt: &(impl Print + AllocGlobal), words: &[String]) -> anyhow::Result<()> {
-    let words = Words::parse(rt.alloc(), TAKES, words)?;
+    let words = Given::new("sheet", TAKES, words)?;
     let hertz = words.number("--laptop", LAPTOP_HERTZ)?;
     ensure!(
         (1..=16_777_216).contains(&hertz),

@@ -1,0 +1,48 @@
+-- The words behind a command.
+use Rattle.std.specs.Prelude.{ℕ, ◌-◌, ◌==◌, Bool, List, [], ◌∷◌, if◌then◌else◌, Option, Some, None, String, map, string_bytes, bytes_eq, nat_eq, codes}
+use Rattle.std.specs.List.{list_any, starts_with}
+use Rattle.words.specs.declared.options.Fault.{Fault}
+use Rattle.words.specs.declared.options.Fault.TheVariants.{NoValue, Unknown, TooMany}
+use denote.Ref.{Bor}
+
+-- the letters of each word
+abbrev pub texts : {Z : Type 0} → List (String Z) → List (List ℕ)
+texts = map string_bytes
+
+-- the letters of a word, if there is one
+abbrev pub option_now : Option (Bor (List ℕ)) → Option (List ℕ)
+option_now None = None
+option_now (Some w) = Some w.now
+
+-- one of these names is the word
+abbrev pub known : List (Bor (List ℕ)) → List ℕ → Bool
+known names w = list_any (λ y. bytes_eq y.now w) names
+
+-- the first word with a fault, behind an option that waits for its value, if one does, and where so many words may still
+-- come that are neither options nor their values
+unfoldable pub first_fault : List (Bor (List ℕ)) → ℕ → Option (List ℕ) → List (List ℕ) → Option (Fault × List ℕ)
+first_fault names left None [] = None
+first_fault names left (Some o) [] = Some (NoValue, o)
+first_fault names left (Some o) (v ∷ ws) = first_fault names left None ws
+first_fault names left None (w ∷ ws) =
+    if known names w then first_fault names left (Some w) ws
+    else if starts_with nat_eq w (codes "--") then Some (Unknown, w)
+    else if left == 0 then Some (TooMany, w)
+    else first_fault names (left - 1) None ws
+
+-- the value of the last option of this name, or else what was found before; behind an option that waits for its value, if one does
+unfoldable pub option_value : List (Bor (List ℕ)) → List ℕ → Option (List ℕ) → Option (List ℕ) → List (List ℕ) → Option (List ℕ)
+option_value names name found waiting [] = found
+option_value names name found (Some o) (v ∷ ws) = option_value names name (if bytes_eq o name then Some v else found) None ws
+option_value names name found None (w ∷ ws) =
+    if known names w then option_value names name found (Some w) ws
+    else option_value names name found None ws
+
+-- the word with this number among those that are neither options nor their values
+unfoldable pub other_word : List (Bor (List ℕ)) → ℕ → Option (List ℕ) → List (List ℕ) → Option (List ℕ)
+other_word names at waiting [] = None
+other_word names at (Some o) (v ∷ ws) = other_word names at None ws
+other_word names at None (w ∷ ws) =
+    if known names w then other_word names at (Some w) ws
+    else if at == 0 then Some w
+    else other_word names (at - 1) None ws
