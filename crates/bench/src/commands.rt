@@ -1,6 +1,6 @@
 // What each command of the bench does, and its help.
 use super::options::Given;
-use super::{capture, drawing, fitting, settings_sheet};
+use super::{drawing, fitting, scanning, settings_sheet};
 use anyhow::{Context, bail};
 use shows::SAMPLE;
 use std::rt::Files;
@@ -60,7 +60,7 @@ pub(crate) fn help(command: Command) -> &'static str {
         Command::Sheet => settings_sheet::HELP,
         Command::Fit => fitting::HELP,
         Command::Draw => drawing::HELP,
-        Command::Scan => capture::HELP,
+        Command::Scan => scanning::HELP,
         Command::Table => TABLE_HELP,
         Command::Demo => DEMO_HELP,
         Command::Link => LINK_HELP,
@@ -78,7 +78,7 @@ pub(crate) fn run(
         Command::Sheet => settings_sheet::command(rt, words),
         Command::Fit => fitting::command(rt, words),
         Command::Draw => drawing::command(rt, words),
-        Command::Scan => capture::command(rt, words),
+        Command::Scan => scanning::command(rt, words),
         Command::Table => {
             Given::new("table", PLAIN, words)?;
             Ok(shows::print_table(rt)?)

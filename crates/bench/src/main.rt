@@ -2,7 +2,7 @@
 
 #![tactic(auto)]
 
-mod capture;
+mod scanning;
 mod commands;
 mod drawing;
 mod fitting;

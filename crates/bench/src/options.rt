@@ -12,7 +12,7 @@ pub(crate) struct Given<'a> {
 
 fn complaint(Wrong { fault, word }: Wrong) -> anyhow::Error {
     match fault {
-        Fault::NoValue => anyhow!("the last option has no value"),
+        Fault::NoValue => anyhow!("the option '{word}' has no value"),
         Fault::Unknown => anyhow!("unknown option '{word}'"),
         Fault::TooMany => anyhow!("one word too many: '{word}'"),
     }

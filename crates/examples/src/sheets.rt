@@ -1,12 +1,13 @@
 // Examples of what the settings sheet is made of, with values worked out apart from the library.
 use super::ports::{laptop_port, lock_port};
+use capture::{Fault, Pieces, look_through};
 use ends::{BareReceiver, BareSender};
 use line::Refusal;
 use link::Rates;
 use picture::{Scanner, draw};
 use sheet::{Off, Tolerance, nearest_divider};
 use std::test::Fail;
-use words::format_named;
+use words::{format_named, number_written};
 
 // The two rates were found by trying Fit's inequalities hertz by hertz.
 #[test]
@@ -105,5 +106,43 @@ fn a_picture_in_two_pieces_is_scanned_as_one(rt: HostRuntime) -> Result<(), Fail
     assert_eq!(rt; scanner.scan(&picture[40..136], &mut entries), Ok(2));
     assert_eq!(rt; entries[0], (0x41, 0));
     assert_eq!(rt; entries[1], (0x42, 0));
+    Ok(())
+}
+
+#[test]
+fn numbers_are_decimal_or_hexadecimal(rt: HostRuntime) {
+    assert_eq!(rt; number_written("24"), Some(24));
+    assert_eq!(rt; number_written("6Fh"), Some(0x6f));
+    assert_eq!(rt; number_written("6F"), None);
+    assert_eq!(rt; number_written("h"), None);
+    assert_eq!(rt; number_written("4294967295"), Some(4_294_967_295));
+    assert_eq!(rt; number_written("4294967296"), None);
+}
+
+// 41h and 42h, read in pieces of 40 bytes; then with a byte that is no level behind them.
+#[test]
+fn a_capture_is_scanned_as_it_is_read(rt: HostRuntime) -> Result<(), Fail> {
+    let timing = lock_port()?;
+    let mut picture = [1; 137];
+    assert_eq!(rt; draw(&timing, &[0x41, 0x42], &mut picture), Ok(136));
+    let mut buffer = [0; 40];
+    let mut entries = [(7, 7); 40];
+    let mut pieces = Pieces::new(&timing);
+    let mut input = &picture[..136];
+    for (bytes, found) in [(40, 0), (40, 1), (40, 0), (16, 1), (0, 0)] {
+        let Ok(piece) = pieces.next(&mut input, &mut buffer, &mut entries) else {
+            return Err(Fail::new("a piece is refused"));
+        };
+        assert_eq!(rt; piece.bytes, bytes);
+        assert_eq!(rt; piece.entries, found);
+    }
+    assert_eq!(rt; pieces.before(), 136);
+    assert_eq!(rt; entries[0], (0x42, 0));
+    picture[136] = 2;
+    let mut again = &picture[..];
+    let Err(Fault::NotALevel(place)) = look_through(&mut again, &mut buffer) else {
+        return Err(Fail::new("a byte that is no level is passed over"));
+    };
+    assert_eq!(rt; place, 136);
     Ok(())
 }

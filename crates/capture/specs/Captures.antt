@@ -1,0 +1,48 @@
+-- What is read of a capture, and what a scan of it gives piece by piece.
+use Rattle.std.specs.Prelude.{◌≡◌, ℕ, ◌+◌, ◌-◌, ◌^◌, ◌<◌, ◌≤◌, min, List, ◌++◌, length, take, nat_lt, position, Option, Some, None, ⊤}
+use Rattle.std.specs.Io.KnownBytes.{Consumes, IsAtEnd}
+use Rattle.ends.specs.Receiver.{ReceiverState, Entry}
+use Rattle.ends.specs.Runs.{taken_down}
+use Rattle.picture.specs.Scanning.{levels}
+use Rattle.capture.specs.declared.pieces.Fault.{Fault}
+use Rattle.capture.specs.declared.pieces.Fault.TheVariants.{Unread, NotALevel, TooShort}
+
+-- n bytes were read, each of them a level, and none only at the end of the capture or where there was no room
+pub record GivesLevels (old new : Option (List ℕ)) (room n : ℕ) (piece : List ℕ) : Type 0 where
+  pub within : n ≤ room
+  pub levels_only : position (nat_lt 1) piece ≡ None
+  pub read : Consumes old new piece
+  pub ends : n ≡ 0 → 0 < room → IsAtEnd new
+
+-- the byte with this number is the first of those read that is no level, where so many came before
+pub record IsOtherAt (before place : ℕ) (buffer : List ℕ) : Type 0 where
+  pub count : ℕ
+  pub at : ℕ
+  pub within : count ≤ length buffer
+  pub first : position (nat_lt 1) (take count buffer) ≡ Some at
+  pub named : place ≡ min (before + at) (2 ^ 64 - 1)
+
+-- a read that failed is the reader's affair
+abbrev pub IsFaultIn : ℕ → List ℕ → Fault → Type 0
+IsFaultIn before buffer (Unread e) = ⊤
+IsFaultIn before buffer (NotALevel place) = IsOtherAt before place buffer
+IsFaultIn before buffer TooShort = ⊥
+
+-- a scan can also find more entries than there is room for
+abbrev pub IsPieceFault : ℕ → List ℕ → Fault → Type 0
+IsPieceFault before buffer (Unread e) = ⊤
+IsPieceFault before buffer (NotALevel place) = IsOtherAt before place buffer
+IsPieceFault before buffer TooShort = ⊤
+
+-- so many bytes were read, one after the other, each of them a level
+pub record HasRead (old new : Option (List ℕ)) (n : ℕ) : Type 0 where
+  pub bytes : List ℕ
+  pub read : Consumes old new bytes
+  pub levels_only : position (nat_lt 1) bytes ≡ None
+  pub counted : n ≡ min (length bytes) (2 ^ 64 - 1)
+
+-- what the bytes that were to come give is what was listed, and then what the bytes that are still to come give
+abbrev pub Continues : Option (List ℕ) → Option (List ℕ) → ReceiverState → ReceiverState → List Entry → Type 0
+Continues None new r s es = ⊤
+Continues (Some xs) None r s es = ⊥
+Continues (Some xs) (Some ys) r s es = taken_down r (levels xs) ≡ es ++ taken_down s (levels ys)
