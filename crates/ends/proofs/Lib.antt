@@ -8,3 +8,4 @@ pub mod Arriving
 pub mod Reading
 pub mod Sampling
 pub mod Tables
+pub mod Quiet

@@ -7,7 +7,7 @@ use Rattle.line.specs.declared.level.Level.TheVariants.{Space, Mark}
 use Rattle.line.specs.declared.format.Format.{Format}
 use Rattle.line.specs.Frames.{first_stop}
 use Rattle.ends.specs.Receiver.{ReceiverState, Entry, Doing, idle, framing, counting, nothing, heard, hears, heard_in_frame, after_frame, entry_of, decided, going_on, arrive, after_clock, after_read, oldest, without_oldest, with, taken_now}
-use Rattle.ends.specs.Runs.{taken_down}
+use Rattle.ends.specs.Runs.{after_levels, taken_down}
 use Rattle.ends.proofs.Arriving.{taken_by_parts}
 
 in_frame_few : (f : Format) (n : ℕ) (ls : List Level) → length (heard_in_frame f n ls).arrived ≤ 1
@@ -69,3 +69,25 @@ module _ (r : ReceiverState) (none : r.unread ≡ []) (l : Level) where
   read_now ls = ap₂ {C = List Entry} (λ es fs. es ++ fs)
       (sym read_one)
       (sym (unread_apart (after_clock r l) (without_oldest (after_clock r l).unread) ls))
+
+none_of : (xs ys : List Entry) → xs ++ ys ≡ [] → (xs ≡ []) × (ys ≡ [])
+none_of [] ys e = (refl, e)
+none_of (x ∷ xs) ys e = cc
+
+-- a clock with which nothing comes leaves nothing unread
+pub still_none : (r : ReceiverState) (l : Level) → r.unread ≡ [] → (hears r l).arrived ≡ [] → (after_clock r l).unread ≡ []
+still_none r l none quiet = ap (λ (es : List Entry). arrive r.capacity r.unread es) quiet ∙ none
+
+pub first_quiet : (r : ReceiverState) (l : Level) (ls : List Level) → taken_down r (l ∷ ls) ≡ [] → (hears r l).arrived ≡ []
+first_quiet r l ls quiet = (none_of (hears r l).arrived (taken_down (after_clock r l) ls) quiet).0
+
+pub rest_quiet : (r : ReceiverState) (l : Level) (ls : List Level) → taken_down r (l ∷ ls) ≡ [] → taken_down (after_clock r l) ls ≡ []
+rest_quiet r l ls quiet = (none_of (hears r l).arrived (taken_down (after_clock r l) ls) quiet).1
+
+-- a read just after the first levels with which something may come, and what comes after
+pub read_last : (l : Level) (rest : List Level) (r : ReceiverState) → r.unread ≡ [] → (ls : List Level) → taken_down r ls ≡ []
+    → taken_down r (ls ++ l ∷ rest) ≡ option_to_list (result_ok (oldest (after_levels r (ls ++ l ∷ [])).unread)) ++ taken_down (after_read (after_levels r (ls ++ l ∷ []))) rest
+read_last l rest r none [] quiet = read_now r none l rest
+read_last l rest r none (x ∷ ls) quiet =
+    ap {B = List Entry} (λ es. es ++ taken_down (after_clock r x) (ls ++ l ∷ rest)) (first_quiet r x ls quiet)
+    ∙ read_last l rest (after_clock r x) (still_none r x none (first_quiet r x ls quiet)) ls (rest_quiet r x ls quiet)

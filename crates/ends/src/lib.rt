@@ -6,6 +6,7 @@ pub mod bare_receiver;
 pub mod bare_sender;
 pub mod doing;
 pub mod kind;
+pub mod passing;
 pub mod receiver;
 pub mod receiving;
 pub mod runs;
