@@ -1,17 +1,19 @@
 -- What is listed of a picture, piece by piece and of frames.
-use Rattle.std.proofs.Common.{◌≡◌, ℕ, suc, ◌+◌, ◌<◌, ◌≤◌, List, [], ◌∷◌, ◌++◌, length, take, drop, set, get_or, sym, refl, ap, ◌∙◌, arith}
+use Rattle.std.proofs.Common.{◌≡◌, ℕ, suc, ◌+◌, ◌-◌, ◌<◌, ◌≤◌, List, [], ◌∷◌, ◌++◌, length, map, take, drop, set, get_or, sym, refl, ap, ◌∙◌, arith}
+use Rattle.std.specs.Result.{result_ok}
+use Rattle.std.specs.Option.{option_to_list}
 use Rattle.std.specs.List.{AllZip}
-use Rattle.std.proofs.lemmas.List.{append_assoc, take_more, take_more_set, drop_more, drop-set-lt, drop-drop, length-set}
+use Rattle.std.proofs.lemmas.List.{append_assoc, map-append, map_more, take-append-drop, take_more, take_more_set, drop_more, drop-set-lt, drop-drop, length-set}
 use Rattle.std.proofs.lemmas.Slice.Zip.{all_zipped_more}
 use Rattle.line.specs.declared.level.Level.{Level}
 use Rattle.line.specs.declared.level.Level.TheVariants.{Space, Mark}
 use Rattle.line.specs.Levels.{level_of}
 use Rattle.ends.specs.declared.timing.Timing.{Timing}
-use Rattle.ends.specs.Receiver.{ReceiverState, Entry, idle, hears, after_clock, after_read, without_oldest}
+use Rattle.ends.specs.Receiver.{ReceiverState, Entry, idle, hears, after_clock, after_read, oldest, without_oldest, with}
 use Rattle.ends.specs.BareReceiver.{at_rest}
-use Rattle.ends.specs.Runs.{taken_down, transmission}
+use Rattle.ends.specs.Runs.{after_levels, taken_down, transmission}
 use Rattle.ends.proofs.Arriving.{hears_all}
-use Rattle.ends.proofs.Reading.{unread_apart}
+use Rattle.ends.proofs.Reading.{unread_apart, still_none, first_quiet, rest_quiet, read_last}
 use Rattle.ends.specs.Soundness.{sound_bare}
 use Rattle.picture.specs.Drawing.{bytes}
 use Rattle.picture.specs.Scanning.{levels, listed, after_listed, Recovers, GoesOn}
@@ -25,6 +27,55 @@ goes_on (b ∷ bs) r more =
     ap {B = List Entry} (λ es. came ++ es) (sym (unread_apart c us (levels (bs ++ more))) ∙ goes_on bs (after_read c) more)
     ∙ sym (append_assoc came (taken_down (after_read c) (levels bs)) (taken_down (after_listed (after_read c) (levels bs)) (levels more)))
     ∙ ap {B = List Entry} (λ es. (came ++ es) ++ taken_down (after_listed (after_read c) (levels bs)) (levels more)) (unread_apart c us (levels bs))
+
+-- a read of nothing
+unread_none : (u : ReceiverState) → u.unread ≡ [] → after_read u ≡ u
+unread_none u none =
+    ap (λ (us : List Entry). with u (without_oldest us) u.previous u.doing) none ∙ sym (ap (λ (us : List Entry). with u us u.previous u.doing) none)
+
+listed_last : (l : Level) (rest : List Level) (r : ReceiverState) → r.unread ≡ [] → (ls : List Level) → taken_down r ls ≡ []
+    → after_listed r (ls ++ l ∷ rest) ≡ after_listed (after_read (after_levels r (ls ++ l ∷ []))) rest
+listed_last l rest r none [] quiet = refl
+listed_last l rest r none (x ∷ ls) quiet =
+    let still = still_none r x none (first_quiet r x ls quiet) in
+    ap (λ (m : ReceiverState). after_listed m (ls ++ l ∷ rest)) (unread_none (after_clock r x) still)
+    ∙ listed_last l rest (after_clock r x) still ls (rest_quiet r x ls quiet)
+
+-- the receiver u after the first k bytes, with the last of which alone an entry may arrive
+module _ (r u : ReceiverState) (none : r.unread ≡ []) (bs : List ℕ) (k : ℕ) (some : 0 < k) (within : k ≤ length bs)
+    (state : u ≡ after_levels r (map level_of (take k bs))) (quiet : taken_down r (map level_of (take (k - 1) bs)) ≡ []) where
+  abbrev front : List Level
+  front = map level_of (take (k - 1) bs)
+
+  abbrev last : Level
+  last = level_of (get_or bs (k - 1) 0)
+
+  heard : map level_of (take k bs) ≡ front ++ last ∷ []
+  heard =
+      let back : k - 1 + 1 ≡ k = omega arith in
+      sym (ap (λ (i : ℕ). map level_of (take i bs)) back) ∙ map_more level_of bs (k - 1) 0 (omega arith)
+
+  whole : levels bs ≡ front ++ last ∷ levels (drop k bs)
+  whole =
+      sym (ap (λ (xs : List ℕ). levels xs) (take-append-drop k bs))
+      ∙ map-append level_of (take k bs) (drop k bs)
+      ∙ ap (λ (ls : List Level). ls ++ levels (drop k bs)) heard
+      ∙ append_assoc front (last ∷ []) (levels (drop k bs))
+
+  now : u ≡ after_levels r (front ++ last ∷ [])
+  now = state ∙ ap (λ (ls : List Level). after_levels r ls) heard
+
+  pub taken_on : taken_down r (levels bs) ≡ option_to_list (result_ok (oldest u.unread)) ++ taken_down (after_read u) (levels (drop k bs))
+  taken_on =
+      ap (λ (ls : List Level). taken_down r ls) whole
+      ∙ read_last last (levels (drop k bs)) r none front quiet
+      ∙ sym (ap {B = List Entry} (λ x. option_to_list (result_ok (oldest x.unread)) ++ taken_down (after_read x) (levels (drop k bs))) now)
+
+  pub listed_on : after_listed r (levels bs) ≡ after_listed (after_read u) (levels (drop k bs))
+  listed_on =
+      ap (λ (ls : List Level). after_listed r ls) whole
+      ∙ listed_last last (levels (drop k bs)) r none front quiet
+      ∙ sym (ap {B = ReceiverState} (λ x. after_listed (after_read x) (levels (drop k bs))) now)
 
 levels_bytes : (ls : List Level) → levels (bytes ls) ≡ ls
 levels_bytes [] = refl

@@ -1,16 +1,13 @@
 // Scanning a picture for characters.
-ghost use Rattle.std.specs.Prelude.{◌≡◌, ℕ, ◌+◌, ◌<◌, ◌≤◌, List, [], ◌∷◌, ◌++◌, length, MatchResult};
+ghost use Rattle.std.specs.Prelude.{◌≡◌, ℕ, ◌+◌, ◌<◌, ◌≤◌, ◌++◌, length, drop, MatchResult};
 ghost use Rattle.std.specs.Option.{option_to_list};
-ghost use Rattle.line.specs.declared.level.Level.{Level};
-ghost use Rattle.line.specs.Levels.{level_of};
-ghost use Rattle.ends.specs.Receiver.{after_clock, after_read};
 ghost use Rattle.ends.specs.BareReceiver.{meant, at_rest};
 ghost use Rattle.ends.specs.Runs.{taken_down};
 ghost use Rattle.picture.specs.Scanning.{levels, any_other, listed, after_listed, piece_answer, scan_answer, Written, Recovers, GoesOn};
 
 use super::scanner::Scanner;
 use ends::{BareReceiver, Receiver, Timing};
-use line::{Level, Refusal};
+use line::Refusal;
 
 // Gives the picture to a new receiver and lists every entry, read as it arrives; answers how many there are.
 pub fn scan<E: From<(u16, u8)> + Copy>(
@@ -59,23 +56,30 @@ impl Scanner {
         Ok(found)
     }
 
-    // One byte of a picture, and the entry that arrives with it. Laid out in both loops: as a call it cost a third more time.
+    // The entry that arrives with the first of the bytes that are left, if one does, and how many these are. Laid out in both loops: as a
+    // call it cost a third more time.
     #[inline(always)]
-    fn step(&mut self, byte: u8) -> Option<(u16, u8)>
-        ensures state { meant self.new.receiver ≡ after_read (after_clock (meant self.old.receiver) (level_of byte)) }
-        ensures taken { (ls : List Level) → taken_down (meant self.old.receiver) (level_of byte ∷ ls) ≡ option_to_list result ++ taken_down (meant self.new.receiver) ls }
+    fn step(&mut self, rest: &[u8]) -> (usize, Option<(u16, u8)>)
+        requires { 0 < length rest.now }
+        ensures within { result.0 ≤ length rest.now }
+        ensures some { 0 < result.0 }
+        ensures state { after_listed (meant self.old.receiver) (levels rest.now) ≡ after_listed (meant self.new.receiver) (levels (drop result.0 rest.now)) }
+        ensures taken { taken_down (meant self.old.receiver) (levels rest.now) ≡ option_to_list result.1 ++ taken_down (meant self.new.receiver) (levels (drop result.0 rest.now)) }
     {
-        self.receiver.clock(Level::from_digit(u16::from(byte)));
-        self.receiver.read().ok()
+        let heard = self.receiver.hear_some(rest);
+        (heard, self.receiver.read().ok())
     }
 
     // How many entries arrive. Counted by hand: of a chain whose closure steps the scanner, the proof learns nothing of the entries.
     fn count(mut self, piece: &[u8]) -> usize
         ensures { result ≡ length (taken_down (meant self.receiver) (levels piece.now)) }
     {
+        let mut rest = piece;
         let mut found = 0;
-        for byte in piece {
-            found += usize::from(self.step(*byte).is_some());
+        while !rest.is_empty() {
+            let (heard, entry) = self.step(rest);
+            found += usize::from(entry.is_some());
+            rest = &rest[heard..];
         }
         found
     }
@@ -87,12 +91,15 @@ impl Scanner {
         ensures entries { Written E.from_gives (taken_down (meant self.old.receiver) (levels piece.now)) (length (taken_down (meant self.old.receiver) (levels piece.now))) entries.new entries.old }
         ensures state { meant self.new.receiver ≡ after_listed (meant self.old.receiver) (levels piece.now) }
     {
+        let mut rest = piece;
         let mut found = 0;
-        for byte in piece {
-            if let Some(entry) = self.step(*byte) {
+        while !rest.is_empty() {
+            let (heard, entry) = self.step(rest);
+            if let Some(entry) = entry {
                 entries[found] = E::from(entry);
                 found += 1;
             }
+            rest = &rest[heard..];
         }
     }
 }

@@ -11,6 +11,7 @@ use Rattle.ends.specs.declared.bare_receiver.BareReceiver.{BareReceiver}
 use Rattle.ends.specs.Receiver.{framing, nothing, heard_in_frame, falling_before, after_clock, with}
 use Rattle.ends.specs.BareReceiver.{meant, doing_of}
 use Rattle.ends.specs.Samples.{taken, taken_by, due_by, unsampled_by, going_by}
+use Rattle.ends.specs.Times.{samples_per_frame}
 use Rattle.ends.specs.Timed.{sample_clocks}
 use Rattle.ends.specs.Soundness.{clocks_length, clock_at}
 use Rattle.ends.proofs.Sampling.{clocks_rising, over_clock}
@@ -21,7 +22,7 @@ use Rattle.ends.proofs.bare_receiver.BareReceiver.hear_some.Goals as goal
 record Frame (r : BareReceiver) (n : ℕ) (s : Samples) : Type 0 where
   pub is : r.doing ≡ Framing n s
   pub in_step : s.count ≡ falling_before (n + 1) (sample_clocks r.timing)
-  pub unended : s.count < r.timing.sample_count
+  pub unended : s.count < samples_per_frame r.timing.format
   pub going : heard_in_frame r.timing.format n (taken s) ≡ nothing (framing n (taken s))
   -- the next sample's clock is ahead
   pub ahead : n < get_or r.timing.samples s.count 0
@@ -30,7 +31,7 @@ in_frame : (r : BareReceiver) (n : ℕ) (s : Samples) → r.doing ≡ Framing n 
 in_frame r n s is =
     let t = r.timing in
     let step : s.count ≡ falling_before (n + 1) (sample_clocks t) = subst (λ (d : Doing). taken_by d ≡ due_by (sample_clocks t) d) is r.in_step in
-    let more : s.count < t.sample_count = subst (λ (d : Doing). taken_by d < t.sample_count) is r.unended in
+    let more : s.count < samples_per_frame t.format = subst (λ (d : Doing). taken_by d < samples_per_frame t.format) is r.unended in
     record {
       is = is;
       in_step = step;
