@@ -65,8 +65,10 @@ impl Samples {
         ensures taken { taken self.new ≡ taken self.old ++ level ∷ [] }
         ensures count { self.new.count ≡ self.old.count + 1 }
     {
-        self.levels[self.count] = level;
-        self.count += 1;
+        // read once: the compiler takes the level that is written for the count as well
+        let count = self.count;
+        self.levels[count] = level;
+        self.count = count + 1;
     }
 
     // Takes the level down for each sample that falls on this clock of the frame, and answers whether one does. The table's samples
