@@ -107,7 +107,8 @@ fn address_bit(count: u8) -> Result<bool, Refusal>
 }
 
 impl Format {
-    // The format with so many data, address and stop bits, and parity 0 for none, 1 for odd, 2 for even.
+    // The format with so many data, address and stop bits, and parity 0 for none, 1 for odd, 2 for even. It is no `TryFrom`: as a tuple
+    // the four numbers would not say which is which.
     pub fn from_numbers(
         data_bits: u8,
         address_bits: u8,
@@ -172,8 +173,8 @@ impl Format {
         let marks = (character % self.characters()).count_ones();
         match self.parity {
             Parity::Absent => 0,
-            Parity::Odd => ((1 + marks) % 2) as u16,
-            Parity::Even => (marks % 2) as u16,
+            Parity::Odd => u16::from(marks % 2 == 0),
+            Parity::Even => u16::from(marks % 2 == 1),
         }
     }
 
