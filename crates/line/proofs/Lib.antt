@@ -1,2 +1,3 @@
+-- The lemmas that several proofs share.
 pub mod Digits
 pub mod Bits

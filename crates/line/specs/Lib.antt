@@ -1,3 +1,4 @@
+-- What the contracts cite.
 pub mod Refusals
 pub mod Levels
 pub mod Frames

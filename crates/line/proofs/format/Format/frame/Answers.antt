@@ -1,3 +1,4 @@
+-- The digits of a frame are the number that its bits make.
 use Rattle.std.proofs.Common.{ℕ, ◌+◌, ◌*◌, ◌%◌, ◌^◌, ◌≤◌, sym, ap, ◌∙◌, ap₂, arith}
 use Rattle.std.proofs.lemmas.Nat.{mul-le, mod_below, pow_pos}
 use Rattle.line.specs.Frames.{width, parity_bits, parity_count}
