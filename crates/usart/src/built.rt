@@ -13,7 +13,7 @@ pub struct Row {
     pub modulator: u8,
 }
 
-// Written out in plain numbers: a constant cannot call `Settings::new`.
+// Written out in plain numbers, as `Row` is public and has been: a constant cannot call `Settings::new`.
 pub const ROWS: [Row; 22] = [
     Row {
         clock: 32768,
