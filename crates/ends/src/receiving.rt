@@ -28,13 +28,6 @@ pub const FRAMING: u8 = 4;
 pub const BREAK: u8 = 8;
 
 impl Timing {
-    // How many samples are taken of a frame: three for each bit through the first stop bit.
-    pub fn sample_count(&self) -> usize
-        ensures { result ≡ samples_per_frame self.now.format }
-    {
-        3 * (1 + self.format.first_stop())
-    }
-
     // The clock that the table has for this sample, whether or not the format uses it.
     fn in_table(&self, sample: usize) -> Option<u32>
         ensures { result ≡ slice_get self.now.samples sample }

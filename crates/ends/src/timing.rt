@@ -1,5 +1,6 @@
 // When an end sends and samples each bit, counted in its own clocks.
 ghost use Rattle.std.specs.Prelude.{◌≡◌, ℕ, ◌+◌, ◌*◌, ◌^◌, ◌<◌, ◌≤◌, length, slice_index};
+ghost use Rattle.ends.specs.Times.{samples_per_frame};
 
 use line::Format;
 
@@ -23,4 +24,13 @@ pub struct Timing {
     ghost early: { (i : ℕ) → slice_index samples i < 1048576 },
     ghost breaks: { 0 < break_length },
     ghost brief: { break_length < 2 ^ 32 },
+}
+
+impl Timing {
+    // How many samples are taken of a frame: three for each bit through the first stop bit.
+    pub fn sample_count(&self) -> usize
+        ensures { result ≡ samples_per_frame self.now.format }
+    {
+        3 * (1 + self.format.first_stop())
+    }
 }
