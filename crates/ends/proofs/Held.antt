@@ -1,11 +1,11 @@
 -- Each bit held for its length: where a bit's level stands in the levels of a frame.
-use Rattle.std.proofs.Common.{◌≡◌, ℕ, zero, suc, ◌+◌, ◌-◌, ◌<◌, ◌≤◌, List, [], ◌∷◌, ◌++◌, length, get_or, take, drop, replicate, sym, refl, ap, ◌∙◌, le_of_suc-le-suc, not-suc-le-zero, arith, length-append, get_or-drop, drop-drop, drop_at}
+use Rattle.std.proofs.Common.{◌≡◌, ℕ, zero, suc, ◌+◌, ◌-◌, ◌*◌, ◌<◌, ◌≤◌, List, [], ◌∷◌, ◌++◌, length, get_or, take, drop, replicate, sym, refl, ap, ◌∙◌, le_of_suc-le-suc, not-suc-le-zero, arith, length-append, get_or-drop, drop-drop, drop_at}
 use lib.ListN.{length-replicate, get_or-replicate}
 use lib.Seq.{drop-nil}
 use Rattle.std.proofs.lemmas.List.{get_or_append_left, get_or-append_right}
 use Rattle.line.specs.declared.level.Level.{Level}
 use Rattle.line.specs.declared.level.Level.TheVariants.{Mark}
-use Rattle.ends.specs.Times.{held, sum}
+use Rattle.ends.specs.Times.{held, sum, start_of}
 use Rattle.ends.proofs.Shifting.{held_none}
 
 pub held_drop : (k : ℕ) (ns : List ℕ) (bs : List Level) → drop (sum (take k ns)) (held ns bs) ≡ held (drop k ns) (drop k bs)
@@ -72,3 +72,21 @@ sum_mono zero b ns h = omega arith
 sum_mono (suc a) zero ns h = absurd (not-suc-le-zero h)
 sum_mono (suc a) (suc b) [] h = omega arith
 sum_mono (suc a) (suc b) (n ∷ ns) h = let k = sum_mono a b ns (le_of_suc-le-suc h) in omega arith
+
+-- a bit begins where the one before it ends
+pub start_more : (ns : List ℕ) (k : ℕ) → start_of ns (k + 1) ≡ start_of ns k + get_or ns k 0
+start_more ns k = ap (λ (x : ℕ). start_of ns x) (one k) ∙ go ns k
+  where
+    one : (k : ℕ) → k + 1 ≡ suc k
+    one k = omega arith
+
+    go : (ns : List ℕ) (k : ℕ) → start_of ns (suc k) ≡ start_of ns k + get_or ns k 0
+    go [] zero = refl
+    go [] (suc k) = refl
+    go (n ∷ ns) zero = omega arith
+    go (n ∷ ns) (suc k) = omega (arith, go ns k)
+
+-- where no bit is longer than 65,536 clocks
+pub start_most : (ns : List ℕ) → ((k : ℕ) → get_or ns k 0 ≤ 65536) → (k : ℕ) → start_of ns k ≤ 65536 * k
+start_most ns short zero = omega arith
+start_most ns short (suc k) = let one : k + 1 ≡ suc k = omega arith in omega (arith, start_most ns short k, short k, start_more ns k, ap (start_of ns) one)

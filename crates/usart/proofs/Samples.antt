@@ -8,6 +8,7 @@ use Rattle.std.proofs.ByRecursion.{All-get_or}
 use Rattle.std.proofs.lemmas.List.FromFn.{get_or-map-range_with_len}
 use Rattle.std.proofs.lemmas.Grind.{take-set_at}
 use Rattle.ends.specs.Times.{sum, start_of}
+use Rattle.ends.proofs.Held.{start_more}
 use Rattle.usart.specs.Usart.{bit_length, lengths, distance, bit_samples, samples, Lasting, Even}
 use Rattle.usart.proofs.Distance.{close, spaced}
 
@@ -20,13 +21,6 @@ bit_lasting u m n ns e low high k h = rw (e, get_or-map-range_with_len (bit_leng
 pub total_is : (ns : List ℕ) → total ns ≡ sum ns
 total_is [] = refl
 total_is (n ∷ ns) = omega (arith, sum_by-cons (λ x. x) n ns, total_is ns)
-
-sum_push : (ns : List ℕ) (n : ℕ) → sum (ns ++ n ∷ []) ≡ sum ns + n
-sum_push [] n = omega arith
-sum_push (x ∷ ns) n = omega (arith, sum_push ns n)
-
-pub start_more : (ns : List ℕ) (k : ℕ) → k < length ns → start_of ns (k + 1) ≡ start_of ns k + get_or ns k 0
-start_more ns k h = ap sum (take_more ns k 0 h) ∙ sum_push (take k ns) (get_or ns k 0)
 
 samples_push : (s : ℕ) (ns : List ℕ) (n : ℕ) → samples s (ns ++ n ∷ []) ≡ samples s ns ++ bit_samples (s + sum ns) n
 samples_push s [] n = ap (λ t. bit_samples t n) (sym (add-zero s))
@@ -117,7 +111,7 @@ module _ (ns : List ℕ) (a : All Lasting ns) (k : ℕ) (h : k < length ns) wher
   pub inside : (start_of ns k ≤ get_or (samples 0 ns) (3 * k) 0) × (get_or (samples 0 ns) (3 * k + 2) 0 < start_of ns (k + 1))
   inside =
       let c = close (get_or ns k 0) lasting in
-      (omega (arith, first), omega (arith, sample_at 0 ns k 2 h (omega arith), start_more ns k h))
+      (omega (arith, first), omega (arith, sample_at 0 ns k 2 h (omega arith), start_more ns k))
 
 -- the last sample of a bit comes before the first of the next
 pub apart : (ns : List ℕ) → All Lasting ns → (k : ℕ) → k + 1 < length ns
