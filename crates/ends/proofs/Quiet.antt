@@ -1,5 +1,5 @@
 -- Levels at which nothing happens: of a frame between its samples, and of an idle line that stays as it is.
-use Rattle.std.proofs.Common.{◌≡◌, ℕ, zero, suc, ◌+◌, ◌-◌, ◌<◌, ◌≤◌, Bool, true, false, cond, leb, List, [], ◌∷◌, ◌++◌, length, map, take, replicate, get_or, refl, ap, ◌∙◌, ⊎_elim, arith}
+use Rattle.std.proofs.Common.{◌≡◌, ℕ, zero, suc, ◌+◌, ◌-◌, ◌<◌, ◌≤◌, Bool, true, false, if◌then◌else◌, nat_le, List, [], ◌∷◌, ◌++◌, length, map, take, replicate, get_or, refl, ap, ◌∙◌, ⊎_elim, arith}
 use Rattle.std.proofs.lemmas.List.{append-nil, map_more}
 use Rattle.std.proofs.lemmas.Bool.{cases_lt}
 use Rattle.std.proofs.lemmas.Bool.Decides.{nat_tests}
@@ -40,11 +40,11 @@ next_heard r u bs k h is =
 
 -- what a clock of a frame comes to, by whether the frame is over
 abbrev comes_to : List Level → ℕ → Bool → List Level → Entry → Heard
-comes_to ls n over bs e = cond over (record { doing = after_frame e; arrived = e ∷ [] }) (nothing (going_on bs n ls))
+comes_to ls n over bs e = if over then record { doing = after_frame e; arrived = e ∷ [] } else nothing (going_on bs n ls)
 
 -- a frame that a clock without a sample leaves as it is, is left so by any such clock
 pub left_at : (f : Format) (n k : ℕ) (ls : List Level) → heard_in_frame f n ls ≡ nothing (framing n ls) → heard_in_frame f k ls ≡ nothing (framing k ls)
-left_at f n k ls is = go (leb (1 + first_stop f) (length (decided ls))) (decided ls) (entry_of f (decided ls)) is
+left_at f n k ls is = go (nat_le (1 + first_stop f) (length (decided ls))) (decided ls) (entry_of f (decided ls)) is
   where
     go : (over : Bool) (bs : List Level) (e : Entry) → comes_to ls n over bs e ≡ nothing (framing n ls) → comes_to ls k over bs e ≡ nothing (framing k ls)
     go true bs e is = let came : e ∷ [] ≡ [] = ap (λ (h : Heard). h.arrived) is in cc

@@ -1,11 +1,11 @@
 -- The look-up of a row, and tests that are computed over the whole table.
-use Rattle.std.proofs.Common.{◌≡◌, ℕ, zero, suc, ◌<◌, ◌≤◌, Bool, true, false, not, ◌&&◌, T, eqb, leb, List, [], ◌∷◌, length, get_or, Some, None, sym, refl, ap, ◌∙◌, subst, ⊎_elim, arith, eq-eqb, eqb-true}
+use Rattle.std.proofs.Common.{◌≡◌, ℕ, zero, suc, ◌<◌, ◌≤◌, Bool, true, false, not, ◌&&◌, T, nat_le, ◌==◌, List, [], ◌∷◌, length, get_or, Some, None, sym, refl, ap, ◌∙◌, subst, ⊎_elim, arith, eq-eqb, eqb-true}
 use Rattle.std.proofs.lemmas.Bool.{and_from, and_parts, cond-true, cond-false, cases_Bool, leb-true}
 use Rattle.usart.specs.declared.built.Row.{Row}
 use Rattle.usart.specs.Table.{rows, blank, Has, lookup, Distinct, InRange}
 
 abbrev same : Row → ℕ → ℕ → Bool
-same r c b = eqb r.clock c && eqb r.baud b
+same r c b = r.clock == c && r.baud == b
 
 has_same : (r : Row) (c b : ℕ) → Has r c b → same r c b ≡ true
 has_same r c b h = and_from _ _ (eq-eqb _ _ h.0) (eq-eqb _ _ h.1)
@@ -21,7 +21,7 @@ pub among : (rs : List Row) (c b : ℕ) (r : Row) → lookup rs c b ≡ Some r �
 among [] c b r e = cc
 among (x ∷ rs) c b r e = ⊎_elim
     (λ (t : same x c b ≡ true).
-    let p = and_parts (eqb x.clock c) (eqb x.baud b) t in
+    let p = and_parts (x.clock == c) (x.baud == b) t in
     let here : Some x ≡ Some r = sym (cond-true (same x c b) _ _ t) ∙ e in
     let is : x ≡ r = cc in
     record { place = 0; within = omega arith; is = is; has = subst (λ (y : Row). Has y c b) is (eqb-true _ _ p.0, eqb-true _ _ p.1) })
@@ -71,20 +71,20 @@ distinct i j li lj h = distinct_from rows refl i j li lj h
 
 abbrev all_in_range : List Row → Bool
 all_in_range [] = true
-all_in_range (x ∷ xs) = leb 3 x.divider && (leb x.divider 65535 && (leb x.modulator 255 && all_in_range xs))
+all_in_range (x ∷ xs) = nat_le 3 x.divider && (nat_le x.divider 65535 && (nat_le x.modulator 255 && all_in_range xs))
 
 in_range_from : (rs : List Row) → all_in_range rs ≡ true → (k : ℕ) → k < length rs
     → (3 ≤ (get_or rs k blank).divider) × ((get_or rs k blank).divider ≤ 65535) × ((get_or rs k blank).modulator ≤ 255)
 in_range_from [] t k l = absurd (omega arith)
 in_range_from (x ∷ xs) t zero l =
-    let a = and_parts (leb 3 x.divider) (leb x.divider 65535 && (leb x.modulator 255 && all_in_range xs)) t in
-    let b = and_parts (leb x.divider 65535) (leb x.modulator 255 && all_in_range xs) a.1 in
-    let c = and_parts (leb x.modulator 255) (all_in_range xs) b.1 in
+    let a = and_parts (nat_le 3 x.divider) (nat_le x.divider 65535 && (nat_le x.modulator 255 && all_in_range xs)) t in
+    let b = and_parts (nat_le x.divider 65535) (nat_le x.modulator 255 && all_in_range xs) a.1 in
+    let c = and_parts (nat_le x.modulator 255) (all_in_range xs) b.1 in
     (leb-true _ _ a.0, leb-true _ _ b.0, leb-true _ _ c.0)
 in_range_from (x ∷ xs) t (suc k) l =
-    let a = and_parts (leb 3 x.divider) (leb x.divider 65535 && (leb x.modulator 255 && all_in_range xs)) t in
-    let b = and_parts (leb x.divider 65535) (leb x.modulator 255 && all_in_range xs) a.1 in
-    let c = and_parts (leb x.modulator 255) (all_in_range xs) b.1 in
+    let a = and_parts (nat_le 3 x.divider) (nat_le x.divider 65535 && (nat_le x.modulator 255 && all_in_range xs)) t in
+    let b = and_parts (nat_le x.divider 65535) (nat_le x.modulator 255 && all_in_range xs) a.1 in
+    let c = and_parts (nat_le x.modulator 255) (all_in_range xs) b.1 in
     in_range_from xs c.1 k (omega arith)
 
 pub in_range : InRange

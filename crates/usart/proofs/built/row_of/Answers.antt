@@ -1,5 +1,5 @@
 -- The chain over the rows is the look-up.
-use Rattle.std.proofs.Common.{rules, tests, ◌∙◌, ◌&&◌, eqb}
+use Rattle.std.proofs.Common.{rules, tests, ◌∙◌, ◌&&◌, ◌==◌}
 use Rattle.std.proofs.lemmas.Iterator.{YieldsList-from_slice}
 use Rattle.std.proofs.lemmas.Iterator.Search.{find_from_yields_List}
 use Rattle.usart.specs.declared.built.Row.{Row}
@@ -10,5 +10,5 @@ pub returns : goal.returns
 unfolding rows
 returns c =
     c.copied.ensures
-    ∙ find_from_yields_List (λ (r : Row). eqb r.clock c.args.clock && eqb r.baud c.args.baud) _ _ _ c.find.ensures.ran
+    ∙ find_from_yields_List (λ (r : Row). r.clock == c.args.clock && r.baud == c.args.baud) _ _ _ c.find.ensures.ran
     (YieldsList-from_slice rows c.iter.ensures.rest) (λ x b q k. search (rules, tests))
