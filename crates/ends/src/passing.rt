@@ -30,6 +30,7 @@ impl BareReceiver {
                         before as usize + 1
                     }
                     None => {
+                        // fewer than those that come before the sample, so their number fits
                         *clock += bytes.len() as u32;
                         if let Some(byte) = bytes.last() {
                             self.previous = level_of(*byte);
@@ -42,7 +43,7 @@ impl BareReceiver {
         }
     }
 
-    // The same outside a frame. Rare beside the samples, whose loop is short without it.
+    // The same outside a frame. Out of line: it is rare beside the samples, whose loop is short without it.
     #[inline(never)]
     fn hear_outside(&mut self, bytes: &[u8]) -> usize
         ensures within { result ≤ length bytes.now }

@@ -92,15 +92,15 @@ impl Samples {
         )
     }
 
-    // The bits decided, as binary digits, the start bit being the least significant. Rare, as the beginning is.
+    // The bits decided, as binary digits, the start bit being the least significant. Out of line, as the beginning is.
     #[inline(never)]
     fn digits(&self, bits: usize) -> u16
         requires { self.now.count ≡ 3 * bits }
         ensures value { result ≡ number (decided (taken self.now)) }
         ensures bound { result < 2 ^ bits }
     {
-        // A loop: of a `fold` over the numbers the check left what its closure asks at each turn, that twice the digits and one more
-        // fit, and the sum itself.
+        // A loop: as a `fold` the goals left were that the digits fit at each turn and what they come to; the library has no lemma for
+        // a range from its end.
         let mut digits = 0;
         for k in (0..bits).rev() {
             digits = 2 * digits + u16::from(u8::from(self.bit(k)));
@@ -115,8 +115,7 @@ impl Samples {
         self.count >= 3 && self.bit(0) == Level::Mark
     }
 
-    // Those of a frame after its first clock, whose level is space. It is rare beside the other clocks of a frame, whose loops
-    // are short without it.
+    // The samples of a frame after its first clock, whose level is space. Out of line: it comes once a frame.
     #[inline(never)]
     fn begin(timing: &Timing) -> Samples
         ensures taken { taken result ≡ taken_now (sample_clocks timing.now) 0 [] Space }
@@ -139,7 +138,7 @@ impl Samples {
         ensures in_step { self.new.count ≡ falling_before (clock + 1) (sample_clocks timing.now) }
         ensures unended { result ≡ Progress.GoesOn → self.new.count < samples_per_frame timing.now.format }
     {
-        // how many samples a frame has is asked at the few clocks alone that take one down
+        // only a clock that takes a sample down can be the last
         if self.take_down(timing, clock, level) && self.count == timing.sample_count() {
             let digits = self.digits(timing.format.first_stop() + 1);
             return Progress::Over(entry(timing.format, digits));
