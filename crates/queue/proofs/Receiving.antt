@@ -1,5 +1,5 @@
 -- A receiver with a queue behind it, by what the receiver below does.
-use Rattle.std.proofs.Common.{◌≡◌, ℕ, pred, ◌+◌, ◌-◌, ◌<◌, ◌≤◌, cond, List, [], ◌∷◌, ◌++◌, length, sym, refl, ap, ◌∙◌, subst, ⊎_elim, arith}
+use Rattle.std.proofs.Common.{◌≡◌, ℕ, pred, ◌+◌, ◌-◌, ◌<◌, ◌≤◌, if◌then◌else◌, List, [], ◌∷◌, ◌++◌, length, sym, refl, ap, ◌∙◌, subst, ⊎_elim, arith}
 use lib.Bits.{bit_or}
 use Rattle.std.proofs.lemmas.Bool.{cases_lt, lt-leb}
 use Rattle.line.specs.declared.level.Level.{Level}
@@ -11,7 +11,7 @@ use Rattle.queue.specs.Queues.{queued_from}
 past_held : (held us : List Entry) (room : ℕ) (e : Entry) → 0 < room → joined (room + length held) (held ++ us) e ≡ held ++ joined room us e
 past_held [] us room e some = let z : room + 0 ≡ room = omega arith in ap {B = List Entry} (λ n. joined n us e) z
 past_held (h ∷ []) [] room e some =
-    ap {B = List Entry} (λ b. cond b ((e.0, bit_or (bit_or e.1 h.1) 1) ∷ []) (h ∷ (e ∷ []))) (lt-leb (room + 1) 1 (omega arith))
+    ap {B = List Entry} (λ b. if b then (e.0, bit_or (bit_or e.1 h.1) 1) ∷ [] else h ∷ (e ∷ [])) (lt-leb (room + 1) 1 (omega arith))
 past_held (h ∷ []) (u ∷ us) room e some =
     let z : pred (room + 1) ≡ room = omega arith in ap {B = List Entry} (λ n. h ∷ joined n (u ∷ us) e) z
 past_held (h ∷ (k ∷ held)) us room e some =
