@@ -72,6 +72,7 @@ impl Samples {
         ensures taken { taken self.new ≡ taken_now (sample_clocks timing.now) clock (taken self.old) level }
         ensures none { result ≡ false → self.new.count ≡ self.old.count }
     {
+        // A flag: by `self.count > before` a run of a link took 1.5 to 3.4 in a hundred more instructions, and a scan as many.
         let mut some = false;
         while timing.in_table(self.count) == Some(clock) {
             self.push(level);
