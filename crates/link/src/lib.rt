@@ -4,6 +4,7 @@
 
 pub mod act;
 pub mod joined;
+mod pair;
 pub mod rates;
 
 pub use act::{Act, Answer};

@@ -1,11 +1,10 @@
 // Whether the rates of two clocks fit.
-ghost use Rattle.std.specs.Prelude.{◌≡◌, ℕ, ◌+◌, ◌≤◌, ◌&&◌, IfOk};
-ghost use Rattle.line.specs.Frames.{first_stop};
-ghost use Rattle.ends.specs.Times.{start_of};
+ghost use Rattle.std.specs.Prelude.{◌≡◌, ℕ, ◌&&◌, IfOk};
 ghost use Rattle.link.specs.declared.rates.Verdict.TheVariants.{Passes};
 ghost use Rattle.link.specs.Fit.{Meets, SteadyDelivers};
-ghost use Rattle.link.specs.Judging.{fit_answer, bit_judged, judged, rate_in_range};
+ghost use Rattle.link.specs.Judging.{fit_answer, rate_in_range};
 
+use super::pair::Pair;
 use ends::{Receiver, Sender};
 use line::Refusal;
 
@@ -53,42 +52,10 @@ pub fn fit<S: Sender, R: Receiver>(
     if !sender.format().agrees(receiver.format()) {
         return Err(Refusal::FormatsDiffer);
     }
-    Ok(judge(sender, receiver, rates))
-}
-
-// The bits from the start bit through the first stop bit, one after the other.
-fn judge<S: Sender, R: Receiver>(sender: &S, receiver: &R, rates: Rates) -> Verdict
-    requires { (rates.send ≤ 16777216) × (rates.receive ≤ 16777216) }
-    ensures { result ≡ judged (S.Sender.meaning sender.now) (R.Receiver.meaning receiver.now) rates.send rates.receive 0 (1 + first_stop (R.Receiver.meaning receiver.now).format) }
-{
-    (0..receiver.format().first_stop() + 1)
-        .try_fold(0, |begin, bit| {
-            judge_bit(sender, receiver, rates, bit, begin)
-        })
-        .err()
-        .unwrap_or(Verdict::Passes)
-}
-
-// Where this bit ends that begins at send clock `begin`, if it is neither early nor late.
-fn judge_bit<S: Sender, R: Receiver>(
-    sender: &S,
-    receiver: &R,
-    rates: Rates,
-    bit: usize,
-    begin: u64,
-) -> Result<u64, Verdict>
-    requires rates { (rates.send ≤ 16777216) × (rates.receive ≤ 16777216) }
-    requires bit { bit ≤ 11 }
-    requires begin { begin ≡ start_of (S.Sender.meaning sender.now).lengths bit }
-    ensures { result ≡ bit_judged (S.Sender.meaning sender.now) (R.Receiver.meaning receiver.now) rates.send rates.receive bit }
-{
-    let (a, b) = (u64::from(rates.send), u64::from(rates.receive));
-    let end = begin + u64::from(sender.bit_length(bit));
-    if begin * b > u64::from(receiver.sample_clock(3 * bit)) * a {
-        return Err(Verdict::Early(bit));
-    }
-    if (u64::from(receiver.sample_clock(3 * bit + 2)) + 1) * a > end * b {
-        return Err(Verdict::Late(bit));
-    }
-    Ok(end)
+    let pair = Pair {
+        sender,
+        receiver,
+        rates,
+    };
+    Ok(pair.judge())
 }
