@@ -1,5 +1,5 @@
 -- No read goes unnoted: a history has the entries that the reads answered.
-use Rattle.std.proofs.Common.{◌≡◌, ℕ, suc, pred, ◌+◌, Bool, true, false, cond, leb, List, [], ◌∷◌, ◌++◌, length, take, sym, refl, ap, ◌∙◌, append_assoc, append-nil, arith}
+use Rattle.std.proofs.Common.{◌≡◌, ℕ, suc, pred, ◌+◌, Bool, true, false, if◌then◌else◌, nat_le, List, [], ◌∷◌, ◌++◌, length, take, sym, refl, ap, ◌∙◌, append_assoc, append-nil, arith}
 use lib.Bits.{bit_or}
 use Rattle.std.proofs.lemmas.List.{length_push, length-take-le, map-append}
 use Rattle.std.proofs.lemmas.Bool.Decides.{nat_tests}
@@ -10,31 +10,31 @@ use Rattle.link.specs.Link.{LinkState, after_act}
 use Rattle.link.specs.History.{History, blank, numbered, noted, noted_read, history_from, history, answered, read_answers, noted_entries}
 
 abbrev grown : Bool → ℕ → ℕ
-grown full n = cond full (pred n) n + 1
+grown full n = (if full then pred n else n) + 1
 
-joined_length : (room : ℕ) (es : List Entry) (e : Entry) → length (joined room es e) ≡ grown (leb room (length es)) (length es)
-joined_length room [] e = go (leb room 0)
+joined_length : (room : ℕ) (es : List Entry) (e : Entry) → length (joined room es e) ≡ grown (nat_le room (length es)) (length es)
+joined_length room [] e = go (nat_le room 0)
   where
     go : (b : Bool) → ◌≡◌ {A = ℕ} 1 (grown b 0)
     go true = refl
     go false = refl
-joined_length room (u ∷ []) e = go (leb room 1)
+joined_length room (u ∷ []) e = go (nat_le room 1)
   where
-    go : (b : Bool) → length (cond b ((e.0, bit_or (bit_or e.1 u.1) 1) ∷ []) (u ∷ (e ∷ []))) ≡ grown b 1
+    go : (b : Bool) → length (if b then (e.0, bit_or (bit_or e.1 u.1) 1) ∷ [] else u ∷ (e ∷ [])) ≡ grown b 1
     go true = refl
     go false = refl
 joined_length room (u ∷ (v ∷ es)) e =
     let n : ℕ = length es in
-    let ih : length (joined (pred room) (v ∷ es) e) ≡ grown (leb (pred room) (suc n)) (suc n) = joined_length (pred room) (v ∷ es) e in
+    let ih : length (joined (pred room) (v ∷ es) e) ≡ grown (nat_le (pred room) (suc n)) (suc n) = joined_length (pred room) (v ∷ es) e in
     ap suc ih ∙ more n
   where
-    more : (n : ℕ) → suc (grown (leb (pred room) (suc n)) (suc n)) ≡ grown (leb room (suc (suc n))) (suc (suc n))
+    more : (n : ℕ) → suc (grown (nat_le (pred room) (suc n)) (suc n)) ≡ grown (nat_le room (suc (suc n))) (suc (suc n))
     more n = grind (arith, nat_tests)
 
-numbered_length : (room : ℕ) (us : List ℕ) (e : Entry) (es : List Entry) (n : ℕ) → length (numbered room us (e ∷ es) n) ≡ grown (leb room (length us)) (length us)
-numbered_length room us e es n = go (leb room (length us))
+numbered_length : (room : ℕ) (us : List ℕ) (e : Entry) (es : List Entry) (n : ℕ) → length (numbered room us (e ∷ es) n) ≡ grown (nat_le room (length us)) (length us)
+numbered_length room us e es n = go (nat_le room (length us))
   where
-    go : (b : Bool) → length (cond b (take (pred (length us)) us) us ++ (n ∷ [])) ≡ grown b (length us)
+    go : (b : Bool) → length ((if b then take (pred (length us)) us else us) ++ (n ∷ [])) ≡ grown b (length us)
     go true = length_push (take (pred (length us)) us) n ∙ ap (λ (k : ℕ). k + 1) (length-take-le (pred (length us)) us (omega arith))
     go false = length_push us n
 
@@ -46,7 +46,7 @@ same_arrival : (room : ℕ) (us : List ℕ) (es arrived : List Entry) (n : ℕ) 
     → length (numbered room us arrived n) ≡ length (arrive room es arrived)
 same_arrival room us es [] n e = e
 same_arrival room us es (x ∷ xs) n e =
-    numbered_length room us x xs n ∙ ap (λ (k : ℕ). grown (leb room k) k) e ∙ sym (joined_length room es x)
+    numbered_length room us x xs n ∙ ap (λ (k : ℕ). grown (nat_le room k) k) e ∙ sym (joined_length room es x)
 
 same_read : (us : List ℕ) (es : List Entry) (h : History) → h.unread ≡ us → length us ≡ length es
     → length (noted_read us es h).unread ≡ length (without_oldest es)

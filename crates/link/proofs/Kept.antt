@@ -1,5 +1,5 @@
 -- What was read and what is unread, in the order in which it arrived: which characters were lost, and what the overrun flag says.
-use Rattle.std.proofs.Common.{◌≡◌, ℕ, zero, suc, pred, ◌+◌, ◌<◌, ◌≤◌, Bool, true, false, cond, eqb, List, [], ◌∷◌, ◌++◌, length, get_or, take, sym, refl, ap, ◌∙◌, subst, ⊎_elim, append_assoc, le_of_suc-le-suc, not-suc-le-zero, arith, take_at}
+use Rattle.std.proofs.Common.{◌≡◌, ℕ, zero, suc, pred, ◌+◌, ◌<◌, ◌≤◌, Bool, true, false, if◌then◌else◌, ◌==◌, List, [], ◌∷◌, ◌++◌, length, get_or, take, sym, refl, ap, ◌∙◌, subst, ⊎_elim, append_assoc, le_of_suc-le-suc, not-suc-le-zero, arith, take_at}
 use lib.Bits.{bit_or}
 use Rattle.std.proofs.lemmas.List.{get_or_append_left, get_or_push, length_push}
 use Rattle.std.proofs.lemmas.Bool.{le-leb, lt-leb, eq-eqb, ne_eqb, cases_lt}
@@ -18,7 +18,7 @@ pairs (u ∷ us) (e ∷ es) = (u, e) ∷ pairs us es
 -- the entries with their numbers, where the next one to arrive had number p: a flag of 1 where numbers are missing just before
 abbrev pub Numbered : List ℕ → ℕ → List Noted → Type 0
 Numbered cs p [] = Unit {0}
-Numbered cs p (x ∷ xs) = (p ≤ x.0) × (x.0 < length cs) × (x.1.0 ≡ get_or cs x.0 0) × (x.1.1 ≡ cond (eqb p x.0) 0 1) × Numbered cs (suc x.0) xs
+Numbered cs p (x ∷ xs) = (p ≤ x.0) × (x.0 < length cs) × (x.1.0 ≡ get_or cs x.0 0) × (x.1.1 ≡ (if p == x.0 then 0 else 1)) × Numbered cs (suc x.0) xs
 
 abbrev pub next : ℕ → List Noted → ℕ
 next p [] = p
@@ -34,7 +34,7 @@ numbered_more cs c p (x ∷ xs) t =
     (t.0, omega (arith, t.1, length_push cs c), t.2 ∙ sym (get_or_append_left cs (c ∷ []) 0 x.0 t.1), t.3, numbered_more cs c (suc x.0) xs t.4)
 
 pub numbered_push : (cs : List ℕ) (p : ℕ) (xs : List Noted) (x : Noted) → Numbered cs p xs → next p xs ≤ x.0 → x.0 < length cs
-    → x.1.0 ≡ get_or cs x.0 0 → x.1.1 ≡ cond (eqb (next p xs) x.0) 0 1 → Numbered cs p (xs ++ (x ∷ []))
+    → x.1.0 ≡ get_or cs x.0 0 → x.1.1 ≡ (if next p xs == x.0 then 0 else 1) → Numbered cs p (xs ++ (x ∷ []))
 numbered_push cs p [] x t a b c d = (a, b, c, d, tt)
 numbered_push cs p (y ∷ xs) x t a b c d = (t.0, t.1, t.2, t.3, numbered_push cs (suc y.0) xs x t.4 a b c d)
 
@@ -44,7 +44,7 @@ numbered_init cs p (x ∷ xs) ys t = (t.0, t.1, t.2, t.3, numbered_init cs (suc 
 
 -- of the last one
 pub numbered_last : (cs : List ℕ) (p : ℕ) (xs : List Noted) (x : Noted) → Numbered cs p (xs ++ (x ∷ []))
-    → (next p xs ≤ x.0) × (x.1.1 ≡ cond (eqb (next p xs) x.0) 0 1)
+    → (next p xs ≤ x.0) × (x.1.1 ≡ (if next p xs == x.0 then 0 else 1))
 numbered_last cs p [] x t = (t.0, t.3)
 numbered_last cs p (y ∷ xs) x t = numbered_last cs (suc y.0) xs x t.4
 
@@ -84,7 +84,7 @@ kept_read cs us u reads es e k = record {
   newest = subst (λ (l : List Noted). next 0 l ≡ length cs) (sym (append_assoc reads ((u, e) ∷ []) (pairs us es))) k.newest;
 }
 
-flag_over : (f : ℕ) (b : Bool) → f ≡ cond b 0 1 → bit_or (bit_or 0 f) 1 ≡ 1
+flag_over : (f : ℕ) (b : Bool) → f ≡ (if b then 0 else 1) → bit_or (bit_or 0 f) 1 ≡ 1
 flag_over f true e = ap (λ (x : ℕ). bit_or (bit_or 0 x) 1) e
 flag_over f false e = ap (λ (x : ℕ). bit_or (bit_or 0 x) 1) e
 
@@ -99,7 +99,7 @@ kept_free cs us reads es c k =
       chain = subst (λ (l : List Noted). Numbered (cs ++ (c ∷ [])) 0 l) (sym e)
           (numbered_push (cs ++ (c ∷ [])) 0 (reads ++ pairs us es) (length cs, (c, 0)) (numbered_more cs c 0 (reads ++ pairs us es) k.chain)
           (omega (arith, k.newest)) (omega (arith, length_push cs c)) (sym (get_or_push cs c 0 (length cs) refl))
-          (sym (ap (λ (b : Bool). cond b 0 1) (eq-eqb (next 0 (reads ++ pairs us es)) (length cs) k.newest))));
+          (sym (ap (λ (b : Bool). if b then 0 else 1) (eq-eqb (next 0 (reads ++ pairs us es)) (length cs) k.newest))));
       newest = ap (λ (l : List Noted). next 0 l) e ∙ next_push 0 (reads ++ pairs us es) (length cs, (c, 0)) ∙ omega (arith, length_push cs c);
     }
 
@@ -115,15 +115,15 @@ kept_full cs us n reads es u c same k =
     ap (λ (l : List Noted). reads ++ l) (pairs_push us es (length cs) (over (c, 0) u) same) ∙ sym (append_assoc reads (pairs us es) (x ∷ [])) in
     let was : Numbered cs 0 (A ++ ((n, u) ∷ [])) = subst (λ (l : List Noted). Numbered cs 0 l) e0 k.chain in
     let top : suc n ≡ length cs = sym (next_push 0 A (n, u)) ∙ ap (λ (l : List Noted). next 0 l) (sym e0) ∙ k.newest in
-    let last : (next 0 A ≤ n) × (u.1 ≡ cond (eqb (next 0 A) n) 0 1) = numbered_last cs 0 A (n, u) was in
-    let flag : bit_or (bit_or 0 u.1) 1 ≡ 1 = flag_over u.1 (eqb (next 0 A) n) last.1 in
+    let last : (next 0 A ≤ n) × (u.1 ≡ (if next 0 A == n then 0 else 1)) = numbered_last cs 0 A (n, u) was in
+    let flag : bit_or (bit_or 0 u.1) 1 ≡ 1 = flag_over u.1 (next 0 A == n) last.1 in
     let apart : next 0 A ≡ length cs → ⊥ = λ z. omega (arith, last.0, top, z) in
     record {
       same = omega (arith, same, length_push us (length cs), length_push es (over (c, 0) u));
       chain = subst (λ (l : List Noted). Numbered (cs ++ (c ∷ [])) 0 l) (sym e1)
           (numbered_push (cs ++ (c ∷ [])) 0 A x (numbered_more cs c 0 A (numbered_init cs 0 A ((n, u) ∷ []) was))
           (omega (arith, last.0, top)) (omega (arith, length_push cs c)) (sym (get_or_push cs c 0 (length cs) refl))
-          (flag ∙ sym (ap (λ (b : Bool). cond b 0 1) (ne_eqb (next 0 A) (length cs) apart))));
+          (flag ∙ sym (ap (λ (b : Bool). if b then 0 else 1) (ne_eqb (next 0 A) (length cs) apart))));
       newest = ap (λ (l : List Noted). next 0 l) e1 ∙ next_push 0 A x ∙ omega (arith, length_push cs c);
     }
 
@@ -133,7 +133,7 @@ arrival_full : (room : ℕ) (cs us : List ℕ) (n : ℕ) (reads : List Noted) (e
 arrival_full room cs us n reads es u c h k =
     let z : length us ≡ length es = omega (arith, k.same, length_push us n, length_push es u) in
     let a : numbered room (us ++ (n ∷ [])) ((c, 0) ∷ []) (length cs) ≡ us ++ (length cs ∷ []) =
-    ap (λ (b : Bool). cond b (take (pred (length (us ++ (n ∷ [])))) (us ++ (n ∷ []))) (us ++ (n ∷ [])) ++ (length cs ∷ []))
+    ap (λ (b : Bool). (if b then take (pred (length (us ++ (n ∷ [])))) (us ++ (n ∷ [])) else us ++ (n ∷ [])) ++ (length cs ∷ []))
     (le-leb room (length (us ++ (n ∷ []))) (omega (arith, h, length_push us n)))
     ∙ ap (λ (l : List ℕ). l ++ (length cs ∷ [])) (take_at us (n ∷ []) (pred (length (us ++ (n ∷ [])))) (omega (arith, length_push us n))) in
     subst (λ (l : List ℕ). Kept (cs ++ (c ∷ [])) l reads (joined room (es ++ (u ∷ [])) (c, 0))) (sym a)
@@ -149,7 +149,7 @@ kept_arrival room cs us reads es c some k = ⊎_elim free full (cases_lt (length
 
     free : length us < room → Kept (cs ++ (c ∷ [])) (numbered room us ((c, 0) ∷ []) (length cs)) reads (joined room es (c, 0))
     free h =
-        subst (λ (b : Bool). Kept (cs ++ (c ∷ [])) (cond b (take (pred (length us)) us) us ++ (length cs ∷ [])) reads (joined room es (c, 0))) (sym (lt-leb room (length us) h))
+        subst (λ (b : Bool). Kept (cs ++ (c ∷ [])) ((if b then take (pred (length us)) us else us) ++ (length cs ∷ [])) reads (joined room es (c, 0))) (sym (lt-leb room (length us) h))
         (subst (λ (l : List Entry). Kept (cs ++ (c ∷ [])) (us ++ (length cs ∷ [])) reads l) (sym (joined_free room es (c, 0) (omega (arith, h, k.same))))
         (kept_free cs us reads es c k))
 
@@ -170,9 +170,9 @@ none = (0, (0, 0))
 pub numbered_at : (cs : List ℕ) (p : ℕ) (xs : List Noted) (j : ℕ) → Numbered cs p xs → j < length xs
     → (p ≤ (get_or xs j none).0) × ((get_or xs j none).0 < length cs) × ((get_or xs j none).1.0 ≡ get_or cs (get_or xs j none).0 0) × ((get_or xs j none).1.1 < 2)
 numbered_at cs p [] j t h = absurd (not-suc-le-zero h)
-numbered_at cs p (x ∷ xs) zero t h = (t.0, t.1, t.2, below_two (eqb p x.0) x.1.1 t.3)
+numbered_at cs p (x ∷ xs) zero t h = (t.0, t.1, t.2, below_two (p == x.0) x.1.1 t.3)
   where
-    below_two : (b : Bool) (f : ℕ) → f ≡ cond b 0 1 → f < 2
+    below_two : (b : Bool) (f : ℕ) → f ≡ (if b then 0 else 1) → f < 2
     below_two true f e = omega arith
     below_two false f e = omega arith
 numbered_at cs p (x ∷ xs) (suc j) t h =
@@ -193,7 +193,7 @@ flag_missing cs p [] j t h f = absurd (not-suc-le-zero h)
 flag_missing cs p (x ∷ xs) zero t h f = (lower, missing)
   where
     lower : p < x.0
-    lower = let a : p ≤ x.0 = t.0 in let b : x.1.1 ≡ cond (eqb p x.0) 0 1 = t.3 in grind (arith, nat_tests)
+    lower = let a : p ≤ x.0 = t.0 in let b : x.1.1 ≡ (if p == x.0 then 0 else 1) = t.3 in grind (arith, nat_tests)
 
     missing : Missing (x ∷ xs) x.0
     missing zero k z = omega (arith, z)
@@ -205,7 +205,7 @@ flag_missing cs p (x ∷ xs) (suc j) t h f =
 pub missing_flag : (cs : List ℕ) (p : ℕ) (xs : List Noted) (j : ℕ) → Numbered cs p xs → j < length xs
     → p < (get_or xs j none).0 → Missing xs (get_or xs j none).0 → (get_or xs j none).1.1 ≡ 1
 missing_flag cs p [] j t h l m = absurd (not-suc-le-zero h)
-missing_flag cs p (x ∷ xs) zero t h l m = let b : x.1.1 ≡ cond (eqb p x.0) 0 1 = t.3 in grind (arith, nat_tests)
+missing_flag cs p (x ∷ xs) zero t h l m = let b : x.1.1 ≡ (if p == x.0 then 0 else 1) = t.3 in grind (arith, nat_tests)
 missing_flag cs p (x ∷ xs) (suc j) t h l m =
     let a : suc x.0 ≤ (get_or xs j none).0 = (numbered_at cs (suc x.0) xs j t.4 (le_of_suc-le-suc h)).0 in
     let b : x.0 + 1 ≡ (get_or xs j none).0 → ⊥ = m 0 (omega arith) in

@@ -1,5 +1,5 @@
 -- Where acts lead from a link at rest, and that a quiet link is at rest.
-use Rattle.std.proofs.Common.{◌≡◌, ℕ, Bool, true, false, cond, List, [], ◌∷◌, ◌++◌, reverse, sym, refl, ap, ◌∙◌, subst, ap₂}
+use Rattle.std.proofs.Common.{◌≡◌, ℕ, Bool, true, false, if◌then◌else◌, List, [], ◌∷◌, ◌++◌, reverse, sym, refl, ap, ◌∙◌, subst, ap₂}
 use mathlib.Core.List.{reverse_aux}
 use Rattle.line.specs.declared.level.Level.{Level}
 use Rattle.line.specs.declared.level.Level.TheVariants.{Space, Mark}
@@ -34,7 +34,7 @@ loaded m lf w us p d l c = go (agree m.sender.format m.receiver.format) (accepte
     s : SenderState
     s = holding m.sender lf w
 
-    go : (a b : Bool) → (v : List ℕ) × (linked (cond a (cond b (holding m.sender lf (w ++ (c ∷ []))) s) s) (with m.receiver us p d) l ≡ link m lf v us p d l)
+    go : (a b : Bool) → (v : List ℕ) × (linked (if a then (if b then holding m.sender lf (w ++ (c ∷ [])) else s) else s) (with m.receiver us p d) l ≡ link m lf v us p d l)
     go true true = (w ++ (c ∷ []), refl)
     go true false = (w, refl)
     go false b = (w, refl)

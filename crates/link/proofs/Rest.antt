@@ -1,5 +1,5 @@
 -- A quiet link is at rest: the line is at mark, and the receiver is outside a frame.
-use Rattle.std.proofs.Common.{◌≡◌, ℕ, zero, suc, ◌+◌, ◌<◌, ◌≤◌, Bool, true, false, cond, ltb, leb, List, [], ◌∷◌, length, get_or, take, replicate, sym, refl, ap, ◌∙◌, subst, ⊎_elim, le_of_suc-le-suc, not-suc-le-zero, arith, length-append}
+use Rattle.std.proofs.Common.{◌≡◌, ℕ, zero, suc, ◌+◌, ◌<◌, ◌≤◌, Bool, true, false, if◌then◌else◌, nat_lt, nat_le, List, [], ◌∷◌, length, get_or, take, replicate, sym, refl, ap, ◌∙◌, subst, ⊎_elim, le_of_suc-le-suc, not-suc-le-zero, arith, length-append}
 use lib.ListN.{length-replicate}
 use Rattle.std.specs.List.{fold}
 use Rattle.std.proofs.lemmas.List.Sums.{fold-append}
@@ -78,7 +78,7 @@ settled_idle Space ls e t = t
 settled_idle Mark ls e t = mark_not_space e
 
 settled_fault : (r : ReceiverState) (l : Level) (ls : List Level) (b : Bool) → (Marks (take (suc (last_sample r)) (l ∷ ls)) → ⊥)
-    → Settled r l (cond b idle (counting 0)) (l ∷ ls)
+    → Settled r l (if b then idle else counting 0) (l ∷ ls)
 settled_fault r l ls true h = settled_idle l ls
 settled_fault r l ls false h = h
 
@@ -88,7 +88,7 @@ one_more n = omega arith
 settled_frame : (r : ReceiverState) → SoundReceiver r → (n : ℕ) (xs : List Level) (l : Level) (ls : List Level)
     → length xs ≡ falling_before n r.samples → n ≤ last_sample r → (Marks (take (suc n) (l ∷ ls)) → ⊥)
     → Settled r l (heard_in_frame r.format n (taken_now r.samples n xs l)).doing (l ∷ ls)
-settled_frame r ok n xs l ls e h no_marks = ⊎_elim ended (λ b. unended b (decided now) refl) (cases_Bool (leb (1 + f) (length (decided now))))
+settled_frame r ok n xs l ls e h no_marks = ⊎_elim ended (λ b. unended b (decided now) refl) (cases_Bool (nat_le (1 + f) (length (decided now))))
   where
     f : ℕ
     f = first_stop r.format
@@ -99,15 +99,15 @@ settled_frame r ok n xs l ls e h no_marks = ⊎_elim ended (λ b. unended b (dec
     length_now : length now ≡ falling_before (suc n) r.samples
     length_now = omega (arith, e, length-append xs (replicate (falling_on n r.samples) l), length-replicate (falling_on n r.samples) l, before_more n r.samples)
 
-    ended : leb (1 + f) (length (decided now)) ≡ true → Settled r l (heard_in_frame r.format n (taken_now r.samples n xs l)).doing (l ∷ ls)
-    ended b = rw b (settled_fault r l ls (ltb (entry_of r.format (decided now)).1 4) (λ z. no_marks (fewer_marks (suc n) (suc (last_sample r)) (l ∷ ls) (omega (arith, h)) z)))
+    ended : nat_le (1 + f) (length (decided now)) ≡ true → Settled r l (heard_in_frame r.format n (taken_now r.samples n xs l)).doing (l ∷ ls)
+    ended b = rw b (settled_fault r l ls (nat_lt (entry_of r.format (decided now)).1 4) (λ z. no_marks (fewer_marks (suc n) (suc (last_sample r)) (l ∷ ls) (omega (arith, h)) z)))
 
-    within : leb (1 + f) (length (decided now)) ≡ false → n < last_sample r
+    within : nat_le (1 + f) (length (decided now)) ≡ false → n < last_sample r
     within b = ⊎_elim (λ (z : n < last_sample r). z)
         (λ (z : last_sample r ≤ n). absurd (omega (arith, leb-false (1 + f) (length (decided now)) b, decided_length now, length_now, all_by_last r ok (suc n) (omega (arith, z)))))
         (cases_lt n (last_sample r))
 
-    unended : leb (1 + f) (length (decided now)) ≡ false → (bs : List Level) → decided now ≡ bs → Settled r l (heard_in_frame r.format n (taken_now r.samples n xs l)).doing (l ∷ ls)
+    unended : nat_le (1 + f) (length (decided now)) ≡ false → (bs : List Level) → decided now ≡ bs → Settled r l (heard_in_frame r.format n (taken_now r.samples n xs l)).doing (l ∷ ls)
     unended b [] s = rw (b, s) (length_now, within b, no_marks)
     unended b (Space ∷ bs) s = rw (b, s) (length_now, within b, no_marks)
     unended b (Mark ∷ bs) s = rw (b, s) (settled_idle l ls)
@@ -122,9 +122,9 @@ settled_clock r ok p (framing n xs) l ls t =
     (λ z. t.2 (marks_rest l (suc n) ls (subst (λ (x : ℕ). Marks (l ∷ take x ls)) (sym (one_more n)) z)))
 settled_clock r ok p (counting n) Mark ls t = λ e z. mark_not_space e
 settled_clock r ok Mark (counting n) Space ls t = settled_frame r ok 0 [] Space ls (sym (before_zero r.samples)) (omega arith) (λ z. z)
-settled_clock r ok Space (counting n) Space ls t = go (leb r.break_length (n + 1))
+settled_clock r ok Space (counting n) Space ls t = go (nat_le r.break_length (n + 1))
   where
-    go : (b : Bool) → Settled r Space (cond b (record { doing = idle; arrived = (0, 8) ∷ [] }) (nothing (counting (n + 1)))).doing (Space ∷ ls)
+    go : (b : Bool) → Settled r Space (if b then record { doing = idle; arrived = (0, 8) ∷ [] } else nothing (counting (n + 1))).doing (Space ∷ ls)
     go true = λ e z. z
     go false = λ z. z
 

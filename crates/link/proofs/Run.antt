@@ -1,5 +1,5 @@
 -- A link at rest delivers, and so does a quiet one.
-use Rattle.std.proofs.Common.{◌≡◌, ℕ, suc, ◌+◌, ◌^◌, ◌<◌, ◌≤◌, Bool, true, false, cond, leb, List, [], ◌∷◌, ◌++◌, length, get_or, Ok, Err, Result, sym, refl, ap, ◌∙◌, subst, inl, inr, ⊎_elim, not-suc-le-zero, arith, get_or-take}
+use Rattle.std.proofs.Common.{◌≡◌, ℕ, suc, ◌+◌, ◌^◌, ◌<◌, ◌≤◌, Bool, true, false, if◌then◌else◌, nat_le, List, [], ◌∷◌, ◌++◌, length, get_or, Ok, Err, Result, sym, refl, ap, ◌∙◌, subst, inl, inr, ⊎_elim, not-suc-le-zero, arith, get_or-take}
 use Rattle.std.proofs.lemmas.List.{get_or_push, length_push}
 use Rattle.std.proofs.lemmas.Bool.{cases_lt, leb-false}
 use Rattle.line.specs.declared.level.Level.{Level}
@@ -27,9 +27,9 @@ use Rattle.link.proofs.Steps.{sampled_last, not_due, not_inside, send_on, send_b
 use Rattle.link.proofs.Receives.{receive_keeps}
 
 load_narrow : (s : SenderState) (c : ℕ) (x : Unit {0}) → load_answer s c ≡ Ok x → c < 2 ^ width s.format
-load_narrow s c x e = go (leb (2 ^ width s.format) c) refl
+load_narrow s c x e = go (nat_le (2 ^ width s.format) c) refl
   where
-    go : (b : Bool) → leb (2 ^ width s.format) c ≡ b → c < 2 ^ width s.format
+    go : (b : Bool) → nat_le (2 ^ width s.format) c ≡ b → c < 2 ^ width s.format
     go true t = cc
     go false t = leb-false (2 ^ width s.format) c t
 
@@ -81,8 +81,8 @@ module _ (m : LinkState) (oks : SoundSender m.sender) (okr : SoundReceiver m.rec
   run_load xs c lf w us p d l h i on = go (agree m.sender.format m.receiver.format) refl (load_answer (holding m.sender lf w) c) refl
     where
       go : (a : Bool) → agree m.sender.format m.receiver.format ≡ a → (A : Result Unit Refusal) → load_answer (holding m.sender lf w) c ≡ A
-          → Comes xs (linked (cond a (cond (accepted A) (holding m.sender lf (w ++ (c ∷ []))) (holding m.sender lf w)) (holding m.sender lf w)) (with m.receiver us p d) l)
-          (noted_load (accepted (cond a A (Err FormatsDiffer))) c h)
+          → Comes xs (linked (if a then (if accepted A then holding m.sender lf (w ++ (c ∷ [])) else holding m.sender lf w) else holding m.sender lf w) (with m.receiver us p d) l)
+          (noted_load (accepted (if a then A else Err FormatsDiffer)) c h)
       go true e (Ok x) f = on (w ++ (c ∷ [])) (noted_load true c h) (load_keeps m oks okr lf w us p d l h c (load_narrow (holding m.sender lf w) c x f) (agreeing m.sender.format m.receiver.format e) i)
       go true e (Err x) f = on w h i
       go false e A f = on w h i
