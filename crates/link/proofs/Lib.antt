@@ -1,3 +1,4 @@
+-- The lemmas that several proofs share.
 pub mod Left
 pub mod InFrame
 pub mod Agreeing

@@ -1,3 +1,4 @@
+-- What the contracts cite.
 pub mod Link
 pub mod History
 pub mod Sampling
