@@ -1,5 +1,5 @@
 -- At which rates of one of two clocks Fit passes.
-use Rattle.std.specs.Prelude.{◌≡◌, ℕ, ◌+◌, ◌-◌, ◌≤◌, Bool, true, false, Ok, Err, Result}
+use Rattle.std.specs.Prelude.{◌≡◌, ℕ, ◌+◌, ◌-◌, ◌≤◌, Bool, true, false, Ok, Err, Result, Option, MatchOption}
 use Rattle.line.specs.declared.refusal.Refusal.{Refusal}
 use Rattle.ends.specs.Sender.{SenderState}
 use Rattle.ends.specs.Receiver.{ReceiverState}
@@ -41,3 +41,11 @@ pub record DownTo (test : ℕ → Bool) (from to : ℕ) : Type 0 where
   pub below : to ≤ from
   pub within : (n : ℕ) → to ≤ n → n ≤ from → test n ≡ true
   pub beyond : test (to - 1) ≡ false
+
+-- the highest rate of the clock that is off up to which Fit passes, counted from the one that it should have; none where Fit does not pass there
+abbrev pub Highest : {S R : Type 0} → (S → SenderState) → (R → ReceiverState) → Tolerance S R → Option ℕ → Type 0
+Highest sends hears t o = MatchOption o (passes_of sends hears t (own_rate t.rates t.off) ≡ false) (λ h. UpTo (passes_of sends hears t) (own_rate t.rates t.off) h)
+
+-- so the lowest
+abbrev pub Lowest : {S R : Type 0} → (S → SenderState) → (R → ReceiverState) → Tolerance S R → Option ℕ → Type 0
+Lowest sends hears t o = MatchOption o (passes_of sends hears t (own_rate t.rates t.off) ≡ false) (λ h. DownTo (passes_of sends hears t) (own_rate t.rates t.off) h)

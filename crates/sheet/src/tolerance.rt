@@ -1,5 +1,5 @@
 // How far the clock of an end may be off before Fit no longer passes.
-ghost use Rattle.std.specs.Prelude.{◌≡◌, ◌+◌, ◌-◌, ◌<◌, ◌≤◌, true, false, MatchOption};
+ghost use Rattle.std.specs.Prelude.{◌≡◌, ◌+◌, ◌-◌, ◌<◌, ◌≤◌, true, false};
 ghost use Rattle.sheet.specs.Tolerance.{own_rate};
 
 use ends::{Receiver, Sender};
@@ -34,7 +34,7 @@ pub struct Tolerance<'a, S, R> {
 }
 
 impl<S: Sender, R: Receiver> Tolerance<'_, S, R> {
-    ghost use Rattle.sheet.specs.Tolerance.{passes_of, UpTo, DownTo};
+    ghost use Rattle.sheet.specs.Tolerance.{passes_of, Highest, Lowest};
 
     // Whether Fit passes when the clock has this rate, and the other the rate that it should have.
     fn passes(&self, hertz: u32) -> bool
@@ -76,8 +76,8 @@ impl<S: Sender, R: Receiver> Tolerance<'_, S, R> {
     // No `then`: tried, and the proof did not find what its closure returns.
     fn edge_towards(&self, bad: u32) -> Option<u32>
         requires { passes_of S.Sender.meaning R.Receiver.meaning self.now bad ≡ false }
-        ensures up { 16777217 ≤ bad → MatchOption result (passes_of S.Sender.meaning R.Receiver.meaning self.now (own_rate self.now.rates self.now.off) ≡ false) (λ h. UpTo (passes_of S.Sender.meaning R.Receiver.meaning self.now) (own_rate self.now.rates self.now.off) h) }
-        ensures down { bad ≡ 0 → MatchOption result (passes_of S.Sender.meaning R.Receiver.meaning self.now (own_rate self.now.rates self.now.off) ≡ false) (λ h. DownTo (passes_of S.Sender.meaning R.Receiver.meaning self.now) (own_rate self.now.rates self.now.off) h) }
+        ensures up { 16777217 ≤ bad → Highest S.Sender.meaning R.Receiver.meaning self.now result }
+        ensures down { bad ≡ 0 → Lowest S.Sender.meaning R.Receiver.meaning self.now result }
     {
         let own = self.off.own_rate(self.rates);
         if !self.passes(own) {
@@ -88,14 +88,14 @@ impl<S: Sender, R: Receiver> Tolerance<'_, S, R> {
 
     // The highest rate of the clock up to which Fit passes; none where it does not pass at all.
     pub fn highest(&self) -> Option<u32>
-        ensures { MatchOption result (passes_of S.Sender.meaning R.Receiver.meaning self.now (own_rate self.now.rates self.now.off) ≡ false) (λ h. UpTo (passes_of S.Sender.meaning R.Receiver.meaning self.now) (own_rate self.now.rates self.now.off) h) }
+        ensures { Highest S.Sender.meaning R.Receiver.meaning self.now result }
     {
         self.edge_towards(MOST_RATE + 1)
     }
 
     // The lowest rate of the clock down to which Fit passes; none where it does not pass at all.
     pub fn lowest(&self) -> Option<u32>
-        ensures { MatchOption result (passes_of S.Sender.meaning R.Receiver.meaning self.now (own_rate self.now.rates self.now.off) ≡ false) (λ h. DownTo (passes_of S.Sender.meaning R.Receiver.meaning self.now) (own_rate self.now.rates self.now.off) h) }
+        ensures { Lowest S.Sender.meaning R.Receiver.meaning self.now result }
     {
         self.edge_towards(0)
     }
