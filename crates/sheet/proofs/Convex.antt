@@ -1,5 +1,5 @@
 -- The rates at which Fit passes have no gaps.
-use Rattle.std.proofs.Common.{◌≡◌, ℕ, ◌+◌, ◌-◌, ◌≤◌, Bool, true, false, cond, ◌&&◌, Ok, Err, refl, mul-le-mul_left, arith}
+use Rattle.std.proofs.Common.{◌≡◌, ℕ, ◌+◌, ◌-◌, ◌≤◌, Bool, true, false, if◌then◌else◌, ◌&&◌, Ok, Err, refl, mul-le-mul_left, arith}
 use Rattle.std.proofs.lemmas.Bool.Decides.{nat_tests}
 use Rattle.line.specs.declared.refusal.Refusal.TheVariants.{OutOfRange, FormatsDiffer}
 use Rattle.line.specs.Formats.{agree}
@@ -30,7 +30,7 @@ module _ (s : SenderState) (r : ReceiverState) where
     where
       go : (x : Bool) → rate_in_range a ≡ x → (y : Bool) → rate_in_range b ≡ y → (z : Bool) → agree s.format r.format ≡ z
           → (v : Verdict) → judged s r a b 0 (1 + first_stop r.format) ≡ v
-          → is_pass (cond (x && y) (cond z (Ok v) (Err FormatsDiffer)) (Err OutOfRange)) ≡ true → Passing s r a b
+          → is_pass (if x && y then (if z then Ok v else Err FormatsDiffer) else Err OutOfRange) ≡ true → Passing s r a b
       go true ax true by true same Passes is h = record { send = ax; receive = by; agreed = same; fits = passes_fits s r a b is }
       go true ax true by true same (IsEarly k) is h = cc
       go true ax true by true same (IsLate k) is h = cc
@@ -96,20 +96,3 @@ in_range s r q o n ok = go o ok
     go : (o : Off) → passes_at s r q o n ≡ true → (1 ≤ n) × (n ≤ 16777216)
     go Sender e = bounds (passing s r n q.receive e).send
     go Receiver e = bounds (passing s r q.send n e).receive
-
--- no rate above all, and not 0
-pub out_above : (s : SenderState) (r : ReceiverState) (q : Rates) (o : Off) → passes_at s r q o 16777217 ≡ false
-out_above s r q Sender = refl
-out_above s r q Receiver = go (rate_in_range q.send)
-  where
-    go : (x : Bool) → is_pass (cond (x && false) (cond (agree s.format r.format) (Ok (judged s r q.send 16777217 0 (1 + first_stop r.format))) (Err FormatsDiffer)) (Err OutOfRange)) ≡ false
-    go true = refl
-    go false = refl
-
-pub out_below : (s : SenderState) (r : ReceiverState) (q : Rates) (o : Off) → passes_at s r q o 0 ≡ false
-out_below s r q Sender = refl
-out_below s r q Receiver = go (rate_in_range q.send)
-  where
-    go : (x : Bool) → is_pass (cond (x && false) (cond (agree s.format r.format) (Ok (judged s r q.send 0 0 (1 + first_stop r.format))) (Err FormatsDiffer)) (Err OutOfRange)) ≡ false
-    go true = refl
-    go false = refl
