@@ -23,5 +23,5 @@ pub fn nearest_divider(hertz: u32, baud: u32) -> Result<u16, Refusal>
     if !(1..=MOST).contains(&divider) {
         return Err(Refusal::OutOfRange);
     }
-    Ok(divider as u16)
+    u16::try_from(divider).map_err(|_| Refusal::OutOfRange)
 }
