@@ -1,5 +1,5 @@
-// The addresses of the registers. An enum made once of the address was tried: `read` proves over it and loses its last arm, but a write has to
-// be one match over ranges of addresses, which an enum's patterns do not have, so constants and enum would both stand for the same eight numbers.
+// The addresses of the registers. An enum made of the address was tried: the goals that say the chip's state after a write of UTCTL and of URCTL
+// stay open. And the rules of a write are one match over the addresses, so constants would stand beside it all the same.
 pub const UCTL: u16 = 0x70;
 
 pub const UTCTL: u16 = 0x71;

@@ -99,7 +99,7 @@ impl Mode {
     pub(crate) fn cut(self, value: u8) -> u8
         ensures { result ≡ value % values self }
     {
-        // below 256, so the cast keeps it
+        // without an address bit it is below 256, so the cast keeps it
         self.character(false, value) as u8
     }
 

@@ -72,7 +72,7 @@ impl Receive {
         };
     }
 
-    // What has arrived at a clock, if something has.
+    // What has arrived at a clock, if something has: an Option, so that `clock` has one path and its proof says each thing once.
     pub(crate) fn take(&mut self, mode: Mode, arrived: Option<(u16, u8)>)
         ensures { self.new ≡ all_taken mode self.old (option_to_list arrived) }
     {
