@@ -1,2 +1,3 @@
+-- The lemmas that the proofs cite.
 pub mod Formats
 pub mod Acts

@@ -1,3 +1,4 @@
+-- What the contracts cite.
 pub mod Drawing
 pub mod Scanning
 pub mod Runs

@@ -1,3 +1,4 @@
+-- Each act that is not declined is done, and its answer goes into its place.
 use Rattle.std.proofs.Common.{arith}
 use Rattle.capi.proofs.Acts.{passed, state_more, answers_more}
 use Rattle.capi.proofs.running.do_all.Goals as goal

@@ -1,3 +1,4 @@
+-- Eight bits joined are a byte.
 use Rattle.std.proofs.Common.{◌∙◌, arith}
 use Rattle.chip.proofs.EachBit.{joined_byte}
 use Rattle.chip.proofs.bits.byte.Goals as goal

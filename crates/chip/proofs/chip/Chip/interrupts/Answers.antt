@@ -1,3 +1,4 @@
+-- What the lines tell follows from the flags, and in reset they rest.
 use Rattle.std.proofs.Common.{option_map}
 use Rattle.chip.specs.Pairs.{ends_of}
 use Rattle.chip.proofs.Tells.{tells}

@@ -1,3 +1,4 @@
+-- What is stored in any register is read back.
 use Rattle.chip.proofs.Stored.{read_back}
 use Rattle.chip.proofs.chip.Chip.power_up.Goals as goal
 
