@@ -22,7 +22,7 @@ impl Run {
     }
 }
 
-// The runs of a picture, one after the other.
+// The runs of a picture, one after the other. `chunk_by` gives the bytes and not the clock that a run begins with.
 #[derive(Clone, Copy)]
 pub struct Runs<'a> {
     picture: &'a [u8],
