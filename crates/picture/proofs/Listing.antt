@@ -88,7 +88,7 @@ recovers t bs s oks agree inside xs m narrow is =
     ∙ ap (λ (l : List Level). taken_down (at_rest t) l) (levels_bytes (transmission s xs m))
     ∙ hears_all (at_rest t) (sound_bare t [] Mark idle) refl refl s oks agree inside xs m narrow
 
--- of the entries `all`, `coming` are still to come; the others stand first in `list`, each as what it gives, and past them all is as in `old`
+-- of the entries `all`, `coming` are still to come; the first places of `list` hold what the others give, one each, and the rest is as in `old`
 pub record Partly {E : Type 0} (gives : Entry → E → Type 0) (all : List Entry) (old : List E) (coming : List Entry) (list : List E) (found : ℕ) : Type 0 where
   pub follow : drop found all ≡ coming
   pub written : AllZip gives (take found all) (take found list)

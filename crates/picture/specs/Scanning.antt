@@ -34,7 +34,7 @@ listed_at t bs = taken_down (resting t) (levels bs)
 abbrev pub listed : Timing → List ℕ → List Entry
 listed t bs = listed_at (times_of t) bs
 
--- n entries stand first, each as what it gives, and past them all is as it was
+-- the first n places hold what the entries give, one each, and the rest is as it was
 abbrev pub Written : {E : Type 0} → (Entry → E → Type 0) → List Entry → ℕ → List E → List E → Type 0
 Written gives es n new old = AllZip gives es (take n new) × (drop n new ≡ drop n old)
 

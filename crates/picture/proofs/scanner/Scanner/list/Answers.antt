@@ -20,9 +20,8 @@ loop-rest-preserved g c =
     let inv = c.loop-rest.invariant in
     let left : take (length bs - k) (drop k bs) ≡ drop k bs = take_all (length bs - k) (drop k bs) (omega (arith, length-drop k bs)) in
     subst (λ (xs : List ℕ). Partly g.E.From.from_gives (taken_down r (levels c.args.piece.now)) c.args.entries.now (taken_down u (levels xs)) c.match-entry.entries c.match-entry.found
-        × (after_listed u (levels xs) ≡ after_listed r (levels c.args.piece.now)))
-    (sym left)
-    (
+    × (after_listed u (levels xs) ≡ after_listed r (levels c.args.piece.now)))
+    (sym left) (
       elim c.match-entry.branch [
         | in-Some w ↦ one_came inv.0 es w.in-Some.entry w.from.result (c.step-heard.ensures.taken ∙ ap (λ o. option_to_list o ++ es) w.in-Some.is) w.from.ensures w.entries-is w.found-is
         | in_default w ↦ none_came inv.0 es (c.step-heard.ensures.taken ∙ ap (λ o. option_to_list o ++ es) w.in_default.is) w.entries-is w.found-is

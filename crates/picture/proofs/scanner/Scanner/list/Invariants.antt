@@ -1,4 +1,4 @@
--- The entries found so far stand first, each as what it gives, and those to come follow.
+-- The first places hold what the entries found so far give, one each, and those to come follow.
 use Rattle.std.proofs.Common.{◌≡◌, length}
 use Rattle.ends.specs.BareReceiver.{meant}
 use Rattle.ends.specs.Runs.{taken_down}
