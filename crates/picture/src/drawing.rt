@@ -9,6 +9,7 @@ use line::{Format, Refusal};
 const MOST_CHARACTERS: usize = 4096;
 
 // Draws the frames of the characters into the picture, one after the other, and answers how many bytes they take.
+#[tactic(auto, using(crate::proofs::Clocks::as_sent))]
 pub fn draw(timing: &Timing, characters: &[u16], picture: &mut [u8]) -> Result<usize, Refusal>
     ensures answer { result ≡ draw_answer timing.now characters.now (length picture.old) }
     ensures picture { MatchResult result (λ n. picture.new ≡ drawn timing.now characters.now ++ drop n picture.old) (λ _. picture.new ≡ picture.old) }

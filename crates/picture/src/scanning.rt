@@ -34,6 +34,7 @@ impl Scanner {
     }
 
     // Lists every entry that arrives with the next piece of the picture; answers how many there are.
+    #[tactic(auto, using(crate::proofs::Listing::goes_on))]
     pub fn scan<E: From<(u16, u8)> + Copy>(
         &mut self,
         piece: &[u8],

@@ -2,23 +2,14 @@
 use Rattle.std.proofs.Common.{sym, refl, add-mul, zero-mul, arith}
 use Rattle.std.proofs.lemmas.Bool.Decides.{nat_tests}
 use Rattle.picture.proofs.Rest.{none_yet, one_more}
-use Rattle.picture.proofs.Clocks.{frame_size, drawn_size, next_frame, as_sent}
+use Rattle.picture.proofs.Clocks.{frame_size, drawn_size, next_frame}
 use Rattle.picture.proofs.drawing.draw.Goals as goal
-
-pub returns-then-any_wide-clause-sent : goal.returns-then-any_wide-clause-sent
-returns-then-any_wide-clause-sent c = as_sent c.args.timing.now c.args.characters.now
-
-pub returns-then-characters-gt-MOST_CHARACTERS-clause-sent : goal.returns-then-characters-gt-MOST_CHARACTERS-clause-sent
-returns-then-characters-gt-MOST_CHARACTERS-clause-sent c = as_sent c.args.timing.now c.args.characters.now
 
 pub returns-then-picture-size-clause-answer : goal.returns-then-picture-size-clause-answer
 returns-then-picture-size-clause-answer c =
     let size = drawn_size c.args.timing.now c.args.characters.now _ c.frame_clocks-clocks.ensures.value in
     let narrow = c.if-any_wide.ensures in
     grind (arith, nat_tests)
-
-pub returns-then-picture-size-clause-sent : goal.returns-then-picture-size-clause-sent
-returns-then-picture-size-clause-sent c = as_sent c.args.timing.now c.args.characters.now
 
 pub loop-i-init : goal.loop-i-init
 loop-i-init c =
@@ -34,6 +25,3 @@ loop-i-preserved c =
     (sym (frame_size t _))
     (omega (arith, add-mul c.loop-i.i 1 c.frame_clocks-clocks.result))
     c.draw_frame.ensures
-
-pub returns-clause-sent : goal.returns-clause-sent
-returns-clause-sent c = as_sent c.args.timing.now c.args.characters.now
