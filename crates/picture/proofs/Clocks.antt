@@ -67,12 +67,6 @@ from_start t c d e =
     ap₂ {C = List ℕ} (λ n m. bytes (held t.lengths (low_bits n m))) all e
     ∙ ap (λ (l : List Level). bytes (held t.lengths l)) (low_number (frame t.format c))
 
--- the byte of a binary digit is the digit
-digit_byte : (b : ℕ) → b < 2 → byte_of (level_of b) ≡ b
-digit_byte zero h = refl
-digit_byte (suc zero) h = refl
-digit_byte (suc (suc b)) h = absurd (omega arith)
-
 module _ (t : Timing) (k : ℕ) (h : k < frame_bits t.format) where
   abbrev bits : ℕ
   bits = frame_bits t.format
@@ -83,18 +77,20 @@ module _ (t : Timing) (k : ℕ) (h : k < frame_bits t.format) where
   lengths_from : drop k t.lengths ≡ get_or t.lengths k 0 ∷ drop (k + 1) t.lengths
   lengths_from = drop_more t.lengths k 0 (omega (arith, t.thirteen, bits_most t.format))
 
-  next_bit_at : (d : ℕ) → from_bit t k d ≡ replicate (get_or t.lengths k 0) (d % 2) ++ from_bit t (k + 1) (d / 2)
+  next_bit_at : (d : ℕ) → from_bit t k d ≡ replicate (get_or t.lengths k 0) (byte_of (level_of (d % 2))) ++ from_bit t (k + 1) (d / 2)
   next_bit_at d =
       let n = get_or t.lengths k 0 in
       let ls = held (drop (k + 1) t.lengths) (low_bits (bits - (k + 1)) (d / 2)) in
       ap₂ {C = List ℕ} (λ ns m. bytes (held ns (low_bits m d))) lengths_from count
       ∙ map-append byte_of (replicate n (level_of (d % 2))) ls
-      ∙ ap (λ l. l ++ bytes ls) (map-replicate byte_of n (level_of (d % 2)) ∙ ap (replicate n) (digit_byte (d % 2) (omega arith)))
+      ∙ ap (λ l. l ++ bytes ls) (map-replicate byte_of n (level_of (d % 2)))
 
   -- the length stands in the part of the table that the format uses
-  pub next_bit : (d b : ℕ) → b ≡ bits → from_bit t k d ≡ replicate (get_or (take b t.lengths) k 0) (d % 2) ++ from_bit t (k + 1) (d / 2)
-  next_bit d b e =
-      next_bit_at d ∙ ap (λ m. replicate m (d % 2) ++ from_bit t (k + 1) (d / 2)) (sym (get_or-take b t.lengths k 0 (omega arith)))
+  pub next_bit : (d b : ℕ) {l : Level} → b ≡ bits → l ≡ level_of (d % 2)
+      → from_bit t k d ≡ replicate (get_or (take b t.lengths) k 0) (byte_of l) ++ from_bit t (k + 1) (d / 2)
+  next_bit d b {l} e is =
+      next_bit_at d
+      ∙ ap₂ (λ m v. replicate m (byte_of v) ++ from_bit t (k + 1) (d / 2)) (sym (get_or-take b t.lengths k 0 (omega arith))) (sym is)
 
 pub past_last : (t : Timing) (k d : ℕ) → frame_bits t.format ≤ k → from_bit t k d ≡ []
 past_last t k d h =

@@ -1,9 +1,10 @@
 // Drawing characters as a sender puts them on the line.
 ghost use Rattle.std.specs.Prelude.{◌≡◌, ◌*◌, ◌≤◌, ◌++◌, length, drop, replicate, MatchResult};
+ghost use Rattle.line.specs.Levels.{byte_of};
 ghost use Rattle.picture.specs.Drawing.{frame_clocks, drawn_frame, drawn, any_wide, draw_answer, AsSent};
 
 use ends::Timing;
-use line::{Format, Refusal};
+use line::{Format, Level, Refusal};
 
 // So many take less than 2^32 bytes, whatever the format and the lengths of its bits.
 const MOST_CHARACTERS: usize = 4096;
@@ -62,16 +63,16 @@ fn draw_frame(timing: &Timing, character: u16, part: &mut [u8])
     let mut at = 0;
     for length in &timing.lengths[..timing.format.bits()] {
         let clocks = *length as usize;
-        draw_run(&mut part[at..], clocks, (digits % 2) as u8);
+        draw_run(&mut part[at..], clocks, Level::from_digit(digits % 2));
         digits /= 2;
         at += clocks;
     }
 }
 
 // Draws one level for so many clocks at the beginning of the part.
-fn draw_run(part: &mut [u8], clocks: usize, byte: u8)
+fn draw_run(part: &mut [u8], clocks: usize, level: Level)
     requires { clocks ≤ length part.old }
-    ensures { part.new ≡ replicate clocks byte ++ drop clocks part.old }
+    ensures { part.new ≡ replicate clocks (byte_of level) ++ drop clocks part.old }
 {
-    part[..clocks].fill(byte);
+    part[..clocks].fill(u8::from(level));
 }

@@ -12,13 +12,13 @@ loop-length-init c =
 
 pub draw_run-requires : goal.draw_run-requires
 draw_run-requires c =
-    piece_fits _ _ c.loop-length.invariant (next_bit c.args.timing.now c.loop-length.length-index (omega arith) c.loop-length.digits _ c.bits.ensures) (sym (length-replicate _ _))
+    piece_fits _ _ c.loop-length.invariant (next_bit c.args.timing.now c.loop-length.length-index (omega arith) c.loop-length.digits _ c.bits.ensures c.from_digit.ensures) (sym (length-replicate _ _))
 
 pub loop-length-preserved : goal.loop-length-preserved
 loop-length-preserved c =
     one_more _ _
     c.loop-length.invariant
-    (next_bit c.args.timing.now c.loop-length.length-index (omega arith) c.loop-length.digits _ c.bits.ensures)
+    (next_bit c.args.timing.now c.loop-length.length-index (omega arith) c.loop-length.digits _ c.bits.ensures c.from_digit.ensures)
     (sym (length-replicate _ _))
     refl
     c.draw_run.ensures
