@@ -23,7 +23,7 @@ joined s r = and_then (ends_at s r) (λ p. Ok (linked p.0 p.1 Mark))
 abbrev pub joined_queued : EndNumbers → EndNumbers → Result LinkState Refusal
 joined_queued s r = and_then (ends_at s r) (λ p. Ok (linked (queued_to p.0 []) (queued_from p.1 []) Mark))
 
--- what a link means that was made or declined, by what its ends mean
+-- what the link means, if one was made, by what its ends mean
 abbrev pub made : {S R : Type 0} → (S → SenderState) → (R → ReceiverState) → Result (Link S R) Refusal → Result LinkState Refusal
 made sends hears (Ok k) = Ok (link_of sends hears k)
 made sends hears (Err e) = Err e

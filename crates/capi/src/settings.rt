@@ -26,7 +26,7 @@ impl TryFrom<EndNumbers> for Timing {
     }
 }
 
-// A bare sender and a bare receiver with these numbers.
+// A bare sender and a bare receiver with these numbers. The two come from C as two pointers; a struct made of them would be opened here at once.
 pub(crate) fn bare_ends(
     sender: &EndNumbers,
     receiver: &EndNumbers,
