@@ -71,7 +71,8 @@ impl Scanner {
         (heard, self.receiver.read().ok())
     }
 
-    // How many entries arrive. Counted by hand: of a chain whose closure steps the scanner, the proof learns nothing of the entries.
+    // How many entries arrive. Counted by hand: a step passes over several bytes, so a chain would need an iterator of our own, which is a struct
+    // more, and has this loop in its `next`.
     fn count(mut self, piece: &[u8]) -> usize
         ensures { result ≡ length (taken_down (meant self.receiver) (levels piece.now)) }
     {
