@@ -25,6 +25,13 @@ pub struct Verdict {
     pub bit: usize,
 }
 
+// Of the send clock and of the receive clock, in hertz. C has them as two numbers.
+#[derive(Clone, Copy, Debug, PartialEq, Eq)]
+pub struct Rates {
+    pub send: u32,
+    pub receive: u32,
+}
+
 #[repr(C)]
 #[derive(Clone, Copy, Debug)]
 pub struct Act {
@@ -108,8 +115,8 @@ pub fn scan(end: &End, picture: &[u8], entries: &mut [Entry], found: &mut usize)
     }
 }
 
-pub fn fit(sender: &End, receiver: &End, rates: (u32, u32), verdict: &mut Verdict) -> u8 {
-    unsafe { hotskrebi_fit(sender, receiver, rates.0, rates.1, verdict) }
+pub fn fit(sender: &End, receiver: &End, rates: Rates, verdict: &mut Verdict) -> u8 {
+    unsafe { hotskrebi_fit(sender, receiver, rates.send, rates.receive, verdict) }
 }
 
 pub fn run(sender: &End, receiver: &End, acts: &[Act], answers: &mut [Answer]) -> u8 {

@@ -1,5 +1,5 @@
 // Whether both sides answer the same.
-use crate::capi::{self, Verdict};
+use crate::capi::{self, Rates, Verdict};
 use crate::inputs::{self, Dice, NO_ANSWER, NO_ENTRY};
 use crate::plain;
 
@@ -82,12 +82,13 @@ pub fn fits(dice: &mut Dice, rounds: usize) -> Compared {
         let sender = inputs::end(dice);
         let receiver = inputs::other_end(dice, &sender);
         let rate = 1 + dice.below(2000);
-        let rates = match dice.below(10) {
+        let (send, receive) = match dice.below(10) {
             0 => (dice.below(1 << 25) as u32, dice.below(1 << 25) as u32),
             1 => (0, 1),
             2 => (16_777_216, 16_777_217),
             _ => ((rate * 50 + dice.below(1 + rate * 4)) as u32, (rate * 52) as u32),
         };
+        let rates = Rates { send, receive };
         let blank = Verdict { verdict: 9, bit: 99 };
         let (mut a, mut b) = (blank, blank);
         let what = format!("Fit of {sender:?} to {receiver:?} at {rates:?}");

@@ -4,7 +4,7 @@ mod compare;
 mod inputs;
 mod plain;
 
-use capi::{End, Entry, Verdict};
+use capi::{End, Entry, Rates, Verdict};
 use inputs::{Dice, NO_ANSWER, NO_ENTRY};
 use std::hint::black_box;
 use std::process::ExitCode;
@@ -135,7 +135,7 @@ fn time_run(end: &End, what: &str, acts: &[capi::Act], library: Run, rust: Run) 
     row(&what, "a clock pair", pairs, times);
 }
 
-fn time_fit(what: &str, receiver: &End, rates: (u32, u32)) {
+fn time_fit(what: &str, receiver: &End, rates: Rates) {
     let end = inputs::eight_n_one(6, 0x6f);
     let blank = Verdict { verdict: 9, bit: 99 };
     let (mut a, mut b) = (blank, blank);
@@ -181,9 +181,9 @@ fn time_all() {
         time_run(&end, "queues of 16", &queued, capi::run_queued, plain::run_queued);
     }
     let receiver = inputs::eight_n_one(6, 0x6f);
-    time_fit("Fit, rates that pass", &receiver, (54, 53));
-    time_fit("Fit, late at bit 7", &receiver, (53, 52));
-    time_fit("Fit, a divider out of range", &inputs::eight_n_one(2, 0), (1, 1));
+    time_fit("Fit, rates that pass", &receiver, Rates { send: 54, receive: 53 });
+    time_fit("Fit, late at bit 7", &receiver, Rates { send: 53, receive: 52 });
+    time_fit("Fit, a divider out of range", &inputs::eight_n_one(2, 0), Rates { send: 1, receive: 1 });
     println!();
     println!("The same scans against Rust that looks at nothing between the samples:");
     for (divider, modulator, long) in ends {

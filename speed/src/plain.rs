@@ -1,5 +1,6 @@
-// The same rules in plain Rust, written from the pages in docs/ for speed and with no proof.
-use crate::capi::{Act, Answer, End, Entry, Verdict};
+// The same rules in plain Rust, written from the pages in docs/ for speed and with no proof. It is the bar that the library's speed
+// is held against, so it stays as it was measured; refusals, parities and acts are numbers in it, as they cross the C interface.
+use crate::capi::{Act, Answer, End, Entry, Rates, Verdict};
 
 const OUT_OF_RANGE: u8 = 1;
 const TOO_WIDE: u8 = 2;
@@ -379,21 +380,21 @@ fn by_sample(timing: Timing, picture: &[u8]) -> Vec<Entry> {
     }
 }
 
-pub fn fit(sender: &End, receiver: &End, rates: (u32, u32), verdict: &mut Verdict) -> u8 {
+pub fn fit(sender: &End, receiver: &End, rates: Rates, verdict: &mut Verdict) -> u8 {
     number(fitted(sender, receiver, rates).map(|found| *verdict = found))
 }
 
-fn fitted(sender: &End, receiver: &End, rates: (u32, u32)) -> Result<Verdict, u8> {
+fn fitted(sender: &End, receiver: &End, rates: Rates) -> Result<Verdict, u8> {
     let sender = Timing::new(sender)?;
     let receiver = Timing::new(receiver)?;
     let range = 1..=16_777_216;
-    if !range.contains(&rates.0) || !range.contains(&rates.1) {
+    if !range.contains(&rates.send) || !range.contains(&rates.receive) {
         return Err(OUT_OF_RANGE);
     }
     if !sender.format.agrees(&receiver.format) {
         return Err(FORMATS_DIFFER);
     }
-    let (a, b) = (rates.0 as u64, rates.1 as u64);
+    let (a, b) = (rates.send as u64, rates.receive as u64);
     let mut begin = 0;
     let samples = receiver.samples[..receiver.sample_count].chunks_exact(3);
     for (bit, (sample, length)) in samples.zip(&sender.lengths).enumerate() {
