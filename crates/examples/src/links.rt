@@ -108,12 +108,17 @@ fn a_list_of_answers_one_too_short_is_left_alone(rt: HostRuntime) -> Result<(), 
     let acts = [Act::Load(0x41), Act::Load(0x42), Act::Read];
     let mut answers = [Ok(Answer::Entry(7, 7)); 3];
     assert_eq!(rt; link.run(&acts, &mut answers[0..2]), Err(Refusal::TooShort));
-    assert_eq!(rt; answers[0], Ok(Answer::Entry(7, 7)));
+    assert_eq!(rt; answers, [Ok(Answer::Entry(7, 7)); 3]);
     // and the link too: its one place is still free
     assert_eq!(rt; link.run(&acts, &mut answers), Ok(3));
-    assert_eq!(rt; answers[0], Ok(Answer::Done));
-    assert_eq!(rt; answers[1], Err(Refusal::Full));
-    assert_eq!(rt; answers[2], Err(Refusal::NothingUnread));
+    assert_eq!(rt;
+        answers,
+        [
+            Ok(Answer::Done),
+            Err(Refusal::Full),
+            Err(Refusal::NothingUnread)
+        ]
+    );
     Ok(())
 }
 

@@ -1,8 +1,16 @@
 // The ports of the examples.
 use ends::{Kind, Timing};
-use line::{Format, Refusal};
+use line::{DataBits, Format, Parity, Refusal, StopBits};
 use port::Port;
 use usart::Usart;
+
+// In the words of the line, since the examples stand on no crate of the lock.
+pub const EIGHT_N_ONE: Format = Format {
+    size: DataBits::Eight,
+    address: false,
+    parity: Parity::Absent,
+    stops: StopBits::One,
+};
 
 // A USART's port of this format at divider 6 and modulator 6Fh.
 pub fn usart_port(
@@ -21,5 +29,5 @@ pub fn lock_port() -> Result<Timing, Refusal> {
 
 // 8N1 at divider 24.
 pub fn laptop_port() -> Result<Timing, Refusal> {
-    Port::timing(Format::from_numbers(8, 0, 0, 1)?, port::Settings::new(24)?)
+    Port::timing(EIGHT_N_ONE, port::Settings::new(24)?)
 }

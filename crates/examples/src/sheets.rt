@@ -104,8 +104,7 @@ fn a_picture_in_two_pieces_is_scanned_as_one(rt: HostRuntime) -> Result<(), Fail
         Err(Refusal::TooShort)
     );
     assert_eq!(rt; scanner.scan(&picture[40..136], &mut entries), Ok(2));
-    assert_eq!(rt; entries[0], (0x41, 0));
-    assert_eq!(rt; entries[1], (0x42, 0));
+    assert_eq!(rt; entries, [(0x41, 0), (0x42, 0)]);
     Ok(())
 }
 

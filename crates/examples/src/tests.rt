@@ -1,21 +1,13 @@
 // Examples of the rules, with values worked out by hand.
-use super::ports::lock_port;
+use super::ports::{EIGHT_N_ONE, lock_port};
 use ends::{BareReceiver, BareSender, Kind, Receiver, Sender, Timing, hear, send};
-use line::{DataBits, Format, Level, Parity, Refusal, StopBits};
+use line::{DataBits, Format, Level, Refusal};
 use picture::{draw, scan};
 use port::Port;
 use queue::{ReceiveQueue, SendQueue};
 use std::process::Abort;
 use std::test::Fail;
 use usart::{Settings, Usart, built_in};
-
-// In the words of the line, since the examples stand on no crate of the lock.
-const EIGHT_N_ONE: Format = Format {
-    size: DataBits::Eight,
-    address: false,
-    parity: Parity::Absent,
-    stops: StopBits::One,
-};
 
 // The slowest format at the fastest divider.
 fn short_port(size: DataBits) -> Result<Timing, Refusal> {
@@ -103,9 +95,7 @@ fn a_buffer_one_byte_short_is_left_alone(rt: HostRuntime) -> Result<(), Fail> {
         draw(&timing, &[0x41], &mut picture),
         Err(Refusal::TooShort)
     );
-    for byte in picture {
-        assert_eq!(rt; byte, 9);
-    }
+    assert_eq!(rt; picture, [9; 67]);
     Ok(())
 }
 
@@ -117,7 +107,7 @@ fn a_wide_character_is_refused_first(rt: HostRuntime) -> Result<(), Fail> {
         draw(&timing, &[0x41, 0x80], &mut picture),
         Err(Refusal::TooWide)
     );
-    assert_eq!(rt; picture[0], 9);
+    assert_eq!(rt; picture, [9; 4]);
     let mut sender = BareSender::new(timing);
     assert_eq!(rt; sender.load(0x80), Err(Refusal::TooWide));
     assert_eq!(rt; sender.load(0x7f), Ok(()));
@@ -158,8 +148,7 @@ fn a_scan_refuses_other_bytes_before_a_short_list(rt: HostRuntime) -> Result<(),
         Err(Refusal::TooShort)
     );
     assert_eq!(rt; scan(&timing, &picture, &mut entries), Ok(1));
-    assert_eq!(rt; entries[0], (0x41, 0));
-    assert_eq!(rt; entries[1], (7, 7));
+    assert_eq!(rt; entries, [(0x41, 0), (7, 7)]);
     picture[79] = 2;
     assert_eq!(rt;
         scan(&timing, &picture, &mut entries[0..0]),
@@ -174,9 +163,7 @@ fn sixty_spaces_are_a_framing_error_and_a_break(rt: HostRuntime) -> Result<(), F
     let spaces = [0; 60];
     let mut entries = [(7, 7); 3];
     assert_eq!(rt; scan(&timing, &spaces, &mut entries), Ok(2));
-    assert_eq!(rt; entries[0], (0, 4));
-    assert_eq!(rt; entries[1], (0, 8));
-    assert_eq!(rt; entries[2], (7, 7));
+    assert_eq!(rt; entries, [(0, 4), (0, 8), (7, 7)]);
     assert_eq!(rt; scan(&timing, &spaces[0..59], &mut entries), Ok(1));
     assert_eq!(rt; scan(&timing, &[0, 1, 1], &mut entries), Ok(0));
     Ok(())
