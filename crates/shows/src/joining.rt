@@ -4,9 +4,9 @@ use super::records::built_in;
 use super::verdicts::InWords;
 use anyhow::anyhow;
 use ends::{Kind, Timing};
-use line::{Format, Refusal};
+use line::Refusal;
 use link::Link;
-use lock::{CLOCK_HERTZ, DIVIDER, MODULATOR};
+use lock::{CLOCK_HERTZ, DIVIDER, FORMAT, MODULATOR};
 use port::Port;
 use queue::{ReceiveQueue, SendQueue};
 use sheet::{Clocked, Way};
@@ -26,8 +26,7 @@ const FRAME: usize = 68;
 const IDLE: usize = 2;
 
 fn laptop_timing() -> Result<Timing, Refusal> {
-    let format = Format::from_numbers(8, 0, 0, 1)?;
-    Port::timing(format, port::Settings::new(LAPTOP_DIVIDER)?)
+    Port::timing(FORMAT, port::Settings::new(LAPTOP_DIVIDER)?)
 }
 
 // How many clocks of the receiver fall into each of the lock's, one after the other.
@@ -43,6 +42,7 @@ impl Pace {
     fn next_clocks(&mut self) -> u64 {
         let parts = u64::from(self.owed) + u64::from(self.hertz);
         let whole = u64::from(CLOCK_HERTZ);
+        // below the rate of the lock's clock, so the cast keeps it
         self.owed = (parts % whole) as u32;
         parts / whole
     }
