@@ -3,7 +3,7 @@ use super::address;
 use super::dice::Dice;
 use super::firmware::{Step, some_steps};
 use super::receive::Receive;
-use super::said::{Answer, Answers, Said, numbered};
+use super::said::{Answer, Answers, Both, Said};
 use super::shape::Shape;
 use super::tally::{Case, Numbered};
 use super::transmit::{Received, Transmit};
@@ -106,9 +106,11 @@ impl Numbered for Driven {
         let mut dice = Dice::new(u32::from(seed));
         let shape = Shape::numbered(seed % 24);
         let steps = some_steps(heap, &mut dice, shape)?;
-        let own = by_times(heap, steps.as_slice())?;
-        let library = by_library(heap, steps.as_slice())?;
-        let answers = numbered(heap, own.as_slice(), library.as_slice())?;
+        let answers = Both {
+            own: by_times(heap, steps.as_slice())?,
+            library: by_library(heap, steps.as_slice())?,
+        }
+        .each_numbered(heap)?;
         Ok(Some(Driven {
             seed,
             steps,

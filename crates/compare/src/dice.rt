@@ -18,7 +18,7 @@ impl Dice {
         second ^ (second >> 31)
     }
 
-    // A number below the bound, or 0 where the bound is 0.
+    // A number below the bound, or 0 where the bound is 0. The remainder is below it, so the cast keeps it; in `byte` too.
     pub(crate) fn below(&mut self, bound: u16) -> u16 {
         (self.roll() % u64::from(bound.max(1))) as u16
     }

@@ -66,6 +66,7 @@ impl Setup {
         let receive = u32::from(dice.below(40));
         let scaled = u64::from(receive) * u64::from(pair.sender.start(10));
         let even = scaled / u64::from(pair.receiver.start(10).max(1));
+        // at most 200, so the cast keeps it
         let near = even.min(200) as u32;
         let send = near
             .saturating_add(u32::from(dice.below(4)))

@@ -4,7 +4,7 @@ use super::dice::Dice;
 use super::hearing::{Entry, heard};
 use super::inbox::Inbox;
 use super::levels::byte_of;
-use super::said::{Answer, Answers, Said, numbered};
+use super::said::{Answer, Answers, Both, Said};
 use super::schedule::Schedule;
 use super::tally::{Case, Numbered};
 use super::times::Pair;
@@ -35,7 +35,7 @@ impl Setup {
 
 // A queue has sixteen places more than what stands below it, and a bare end has one.
 fn capacity(queues: u16) -> usize {
-    16 * queues as usize + 1
+    16 * usize::from(queues) + 1
 }
 
 // The side that sends: the clocks that it was given, what was on the line last, and what the receiver hears.
@@ -203,9 +203,11 @@ impl Numbered for Linked {
             return Ok(None);
         };
         let acts = some_acts(heap, &mut dice, &setup.pair)?;
-        let own = by_times(heap, &setup, acts.as_slice())?;
-        let library = by_library(heap, &setup, from, to, acts.as_slice())?;
-        let answers = numbered(heap, own.as_slice(), library.as_slice())?;
+        let answers = Both {
+            own: by_times(heap, &setup, acts.as_slice())?,
+            library: by_library(heap, &setup, from, to, acts.as_slice())?,
+        }
+        .each_numbered(heap)?;
         Ok(Some(Linked {
             seed,
             setup,

@@ -62,7 +62,7 @@ fn start(rt: &(impl Print + AllocGlobal)) -> anyhow::Result<()> {
         told(rt, "chips", tally::compare::<Driven>(rt, 2400)?)?,
     ];
     ensure!(
-        same == [true; 7],
+        !same.contains(&false),
         "the library and the second emulator differ"
     );
     Ok(())

@@ -69,7 +69,7 @@ impl Numbered for Drawn {
         let needed = characters.len().saturating_mul(end.frame_clocks as usize);
         // sometimes a byte too short
         let places = needed
-            .saturating_add(dice.below(12) as usize)
+            .saturating_add(usize::from(dice.below(12)))
             .saturating_sub(1);
         let mut own = vec![in heap; KEPT; places]?;
         let mut library = vec![in heap; KEPT; places]?;

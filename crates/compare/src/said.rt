@@ -88,19 +88,19 @@ impl<T: PartialEq + Copy> Both<Vec<T>> {
 // The answers to a list of calls, with the numbers of the refusals.
 pub(crate) type Answers = Both<Vec<Result<Said, u8>>>;
 
-pub(crate) fn numbered(
-    heap: Global,
-    own: &[Answer],
-    library: &[Answer],
-) -> Result<Answers, AllocError> {
-    Ok(Both {
-        own: own
-            .iter()
-            .map(|answer| answer.map_err(number))
-            .collect(heap)?,
-        library: library
-            .iter()
-            .map(|answer| answer.map_err(u8::from))
-            .collect(heap)?,
-    })
+impl Both<Vec<Answer>> {
+    pub(crate) fn each_numbered(self, heap: Global) -> Result<Answers, AllocError> {
+        Ok(Both {
+            own: self
+                .own
+                .iter()
+                .map(|answer| answer.map_err(number))
+                .collect(heap)?,
+            library: self
+                .library
+                .iter()
+                .map(|answer| answer.map_err(u8::from))
+                .collect(heap)?,
+        })
+    }
 }

@@ -28,10 +28,11 @@ fn frames(heap: Global, end: &End, dice: &mut Dice) -> Result<Vec<u8>, AllocErro
 
 // Runs of a random level and length, put over the picture.
 fn spoil(picture: &mut [u8], dice: &mut Dice, longest: u16) {
+    // at most 2,000, so the cast keeps it
     let length = picture.len().min(2000) as u16;
     for _ in 0..dice.below(5).saturating_add(1) {
-        let first = dice.below(length) as usize;
-        let run = dice.below(longest) as usize;
+        let first = usize::from(dice.below(length));
+        let run = usize::from(dice.below(longest));
         let level = u8::from(!dice.one_in(2));
         for byte in picture.iter_mut().skip(first).take(run) {
             *byte = level;
@@ -44,7 +45,7 @@ fn runs(heap: Global, dice: &mut Dice, longest: u16) -> Result<Vec<u8>, AllocErr
     let mut picture = Vec::new(heap);
     for i in 0..dice.below(20) {
         let bound = dice.below(longest).saturating_add(1);
-        picture.extend(repeat_n((i % 2) as u8, usize::from(dice.below(bound))))?;
+        picture.extend(repeat_n(u8::from(i % 2 == 1), usize::from(dice.below(bound))))?;
     }
     Ok(picture)
 }
@@ -74,6 +75,7 @@ pub(crate) fn some_picture(
     end: &End,
     dice: &mut Dice,
 ) -> Result<Vec<u8>, AllocError> {
+    // at most 300, so the cast keeps it
     let longest = (end.frame_clocks.min(300) as u16).saturating_mul(2);
     let mut picture = match dice.below(6) {
         0 => frames(heap, end, dice)?,
@@ -93,7 +95,7 @@ pub(crate) fn some_picture(
         }
     };
     if dice.one_in(50) {
-        let place = dice.below(200) as usize;
+        let place = usize::from(dice.below(200));
         if let Some(byte) = picture.get_mut(place) {
             *byte = 2;
         }

@@ -68,9 +68,10 @@ impl Shape {
 
     // What a character has in its data bits.
     pub(crate) fn cut(self, character: u16) -> u8 {
+        let [low, _] = character.to_le_bytes();
         match self.data {
-            DataBits::Seven => (character % 128) as u8,
-            DataBits::Eight => (character % 256) as u8,
+            DataBits::Seven => low % 128,
+            DataBits::Eight => low,
         }
     }
 

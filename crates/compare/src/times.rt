@@ -56,7 +56,7 @@ impl Gear {
     // Whether an end of this format can have these settings.
     pub(crate) fn suits(self, shape: Shape) -> bool {
         match self {
-            Gear::Port { divider } => divider >= 1 && divider <= 4096 && !shape.address,
+            Gear::Port { divider } => (1..=4096).contains(&divider) && !shape.address,
             Gear::Usart { divider, .. } => divider >= 3,
         }
     }
