@@ -3,7 +3,7 @@ use super::lines::end_named;
 use super::options::{Given, number};
 use anyhow::bail;
 use line::Refusal;
-use link::Verdict;
+use link::{MOST_RATE, Verdict};
 use sheet::{Clocked, Off, Way};
 use std::alloc::Global;
 use std::io;
@@ -58,7 +58,7 @@ fn print_verdict(rt: &impl Print, way: Way) -> anyhow::Result<()> {
         Ok(Verdict::Late(bit)) => println!(rt;
             "They do not fit: bit {bit} of a frame can be sampled after it has left the line."
         )?,
-        Err(Refusal::OutOfRange) => bail!("a rate is not from 1 to 16777216 Hz"),
+        Err(Refusal::OutOfRange) => bail!("a rate is not from 1 to {MOST_RATE} Hz"),
         Err(_) => bail!("the two formats do not agree"),
     }
     Ok(())

@@ -1,6 +1,7 @@
 // The settings sheet, for the laptop and the format that the words name.
 use super::options::Given;
 use anyhow::ensure;
+use link::MOST_RATE;
 use shows::{LAPTOP_HERTZ, print_sheet};
 use words::Takes;
 
@@ -19,8 +20,8 @@ pub(crate) fn command(rt: &(impl Print + AllocGlobal), words: &[String]) -> anyh
     let words = Given::new("sheet", TAKES, words)?;
     let hertz = words.number("--laptop", LAPTOP_HERTZ)?;
     ensure!(
-        (1..=16_777_216).contains(&hertz),
-        "--laptop: {hertz} Hz is not from 1 to 16777216"
+        (1..=MOST_RATE).contains(&hertz),
+        "--laptop: {hertz} Hz is not from 1 to {MOST_RATE}"
     );
     print_sheet(rt, hertz, words.format_name(), words.format()?)
 }
