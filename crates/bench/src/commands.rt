@@ -4,7 +4,7 @@ use super::{drawing, fitting, scanning, settings_sheet};
 use anyhow::{Context, bail};
 use shows::SAMPLE;
 use std::rt::Files;
-use words::{Command, Takes, command_named};
+use words::{Command, Takes};
 
 // What a command without options takes.
 pub(crate) const PLAIN: Takes<'static> = Takes {
@@ -50,11 +50,12 @@ Sets a chip up register by register, as firmware does, releases it, and has it h
 a character of its own; each access to a register is shown.";
 
 pub(crate) fn command_given(word: &str) -> anyhow::Result<Command> {
-    command_named(word).context(format_args!(
+    word.parse().ok().context(format_args!(
         "unknown word '{word}'; 'bench --help' says which there are"
     ))
 }
 
+// No methods, here and in `run`: the enum is of words.
 pub(crate) fn help(command: Command) -> &'static str {
     match command {
         Command::Sheet => settings_sheet::HELP,

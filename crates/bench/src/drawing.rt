@@ -7,7 +7,7 @@ use picture::{Run, Runs, draw};
 use shows::level_name;
 use std::io;
 use std::io::Write;
-use words::{PictureStyle, Takes, picture_style_named};
+use words::{PictureStyle, Takes};
 
 const TAKES: Takes<'static> = Takes {
     options: &["--format", "--divider", "--modulator", "--as"],
@@ -32,6 +32,7 @@ $var wire 1 ! line $end
 $upscope $end
 $enddefinitions $end";
 
+// The style as a parameter, here and below, and no methods: the enum is of words.
 fn write_head(rt: &impl Print, style: PictureStyle) -> io::Result<()> {
     match style {
         PictureStyle::Runs => println!(rt; "  from clock  level    clocks"),
@@ -43,7 +44,7 @@ fn write_head(rt: &impl Print, style: PictureStyle) -> io::Result<()> {
 // Writes what has been drawn of a frame that begins with this clock. It begins with space and ends with mark, so
 // no run goes on in the next.
 fn write_frame(rt: &impl Print, style: PictureStyle, begin: u64, frame: &[u8]) -> io::Result<()> {
-    if let PictureStyle::Bytes = style {
+    if style == PictureStyle::Bytes {
         return io::writer(rt).write_all(frame);
     }
     for run in Runs::new(frame) {
@@ -91,7 +92,7 @@ fn draw_text(
         write_frame(rt, style, begin, drawn)?;
         begin = begin.saturating_add(drawn.len() as u64);
     }
-    if let PictureStyle::Vcd = style {
+    if style == PictureStyle::Vcd {
         println!(rt; "#{begin}")?;
     }
     Ok(())
@@ -99,7 +100,7 @@ fn draw_text(
 
 pub(crate) fn command(rt: &(impl Print + AllocGlobal), words: &[String]) -> anyhow::Result<()> {
     let words = Given::new("draw", TAKES, words)?;
-    let style = words.style(picture_style_named, "runs, bytes and vcd")?;
+    let style = words.style("runs, bytes and vcd")?;
     let timing = chosen(&words)?;
     let text = words.needed(0, "text")?;
     // a wide character is found before anything is written

@@ -2,12 +2,12 @@
 
 #![tactic(auto)]
 
-mod scanning;
 mod commands;
 mod drawing;
 mod fitting;
 mod lines;
 mod options;
+mod scanning;
 mod settings_sheet;
 
 use commands::{HELP, PLAIN, command_given, help};

@@ -1,7 +1,8 @@
 // What a command makes of the words behind it, and what it says where one is wrong or missing.
 use anyhow::{Context, anyhow};
 use line::Format;
-use words::{Fault, Takes, Words, Wrong, format_named, number_written};
+use std::str::FromStr;
+use words::{Fault, Takes, Unnamed, Words, Wrong, format_named, number_written};
 
 // The words behind a command. Its name is told where one is missing.
 #[derive(Clone, Copy)]
@@ -29,15 +30,15 @@ impl<'a> Given<'a> {
     }
 
     // The style that --as names, of those there are, or else the usual one.
-    pub(crate) fn style<S: Default, F: FnOnce(&str) -> Option<S>>(
+    pub(crate) fn style<S: Default + FromStr<Err = Unnamed>>(
         &self,
-        named: F,
         known: &str,
-    ) -> anyhow::Result<S>
-        requires { F.IsAlwaysCallable named }
-    {
+    ) -> anyhow::Result<S> {
         match self.words.option("--as") {
-            Some(word) => named(word).context(format_args!("--as: '{word}' is none of {known}")),
+            Some(word) => word
+                .parse()
+                .ok()
+                .context(format_args!("--as: '{word}' is none of {known}")),
             None => Ok(S::default()),
         }
     }
@@ -46,7 +47,7 @@ impl<'a> Given<'a> {
         self.words.other(at)
     }
 
-    // The word with this number among those that are no options, or a complaint that it is missing.
+    // The word with this number among those that are neither options nor their values, or a complaint that it is missing.
     pub(crate) fn needed(&self, at: usize, what: &str) -> anyhow::Result<&'a str> {
         let command = self.command;
         self.other(at).context(format_args!(

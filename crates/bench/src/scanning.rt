@@ -9,7 +9,7 @@ use std::fs::File;
 use std::io;
 use std::io::Read;
 use std::rt::Files;
-use words::{FoundStyle, Takes, found_style_named};
+use words::{FoundStyle, Takes};
 
 const TAKES: Takes<'static> = Takes {
     options: &["--format", "--divider", "--modulator", "--as"],
@@ -30,6 +30,7 @@ brackets, or one to a line in hexadecimal or decimal. It reads the file, or
 standard input without one, in pieces, so a capture may have any length. Without
 settings it takes those of the lock.";
 
+// No method: the enum is of words.
 fn print_entry(rt: &impl Print, style: FoundStyle, (character, bits): (u16, u8)) -> io::Result<()> {
     match style {
         FoundStyle::Text => print!(rt; "{}", readable(character))?,
@@ -111,7 +112,7 @@ fn scan_capture<I: Read>(
         entries.as_mut_slice(),
     )?;
     ensure!(pieces.before() > 0, "{name} is empty");
-    if let FoundStyle::Text = style {
+    if style == FoundStyle::Text {
         println!(rt; "")?;
     }
     Ok(())
@@ -141,7 +142,7 @@ pub(crate) fn command(
     words: &[String],
 ) -> anyhow::Result<()> {
     let words = Given::new("scan", TAKES, words)?;
-    let style = words.style(found_style_named, "text, hex and decimal")?;
+    let style = words.style("text, hex and decimal")?;
     let timing = chosen(&words)?;
     if let Some(name) = words.other(0) {
         return scan_file(rt, &timing, style, name);

@@ -1,8 +1,12 @@
 // The commands of the bench, each by its word.
+ghost use Rattle.std.specs.Result.{result_ok};
 ghost use Rattle.words.specs.Names.{NamedBy};
 ghost use Rattle.words.specs.Commands.{command_word};
 
-#[derive(Clone, Copy)]
+use super::unnamed::Unnamed;
+use std::str::FromStr;
+
+#[derive(Clone, Copy, PartialEq, Eq, Debug)]
 pub enum Command {
     Sheet,
     Fit,
@@ -14,19 +18,22 @@ pub enum Command {
     Chip,
 }
 
-// The command that has this word, or none.
-pub fn command_named(word: &str) -> Option<Command>
-    ensures { NamedBy command_word word.now result }
-{
-    match word {
-        "sheet" => Some(Command::Sheet),
-        "fit" => Some(Command::Fit),
-        "draw" => Some(Command::Draw),
-        "scan" => Some(Command::Scan),
-        "table" => Some(Command::Table),
-        "demo" => Some(Command::Demo),
-        "link" => Some(Command::Link),
-        "chip" => Some(Command::Chip),
-        _ => None,
+impl FromStr for Command {
+    type Err = Unnamed;
+
+    ghost from_str_gives = { λ word r. NamedBy command_word word (result_ok r) };
+
+    fn from_str(word: &str) -> Result<Command, Unnamed> {
+        match word {
+            "sheet" => Ok(Command::Sheet),
+            "fit" => Ok(Command::Fit),
+            "draw" => Ok(Command::Draw),
+            "scan" => Ok(Command::Scan),
+            "table" => Ok(Command::Table),
+            "demo" => Ok(Command::Demo),
+            "link" => Ok(Command::Link),
+            "chip" => Ok(Command::Chip),
+            _ => Err(Unnamed),
+        }
     }
 }

@@ -18,7 +18,7 @@ impl<'a> Takes<'a> {
 }
 
 // What is wrong with a word.
-#[derive(Clone, Copy)]
+#[derive(Clone, Copy, PartialEq, Eq, Debug)]
 pub enum Fault {
     // it is the last word, and an option, so its value is missing
     NoValue,
@@ -33,7 +33,7 @@ pub struct Wrong<'a> {
     pub word: &'a str,
 }
 
-// The words, with nothing wrong among them.
+// The words behind a command, and what it takes.
 #[derive(Clone, Copy)]
 pub struct Words<'a> {
     pub takes: Takes<'a>,

@@ -1,9 +1,13 @@
 // In which form a picture is written and what is found in a capture, each by its word.
+ghost use Rattle.std.specs.Result.{result_ok};
 ghost use Rattle.words.specs.Names.{NamedBy};
 ghost use Rattle.words.specs.Styles.{picture_word, found_word};
 
+use super::unnamed::Unnamed;
+use std::str::FromStr;
+
 // A picture: its runs of equal levels, a byte for each clock, or a file for a waveform viewer.
-#[derive(Clone, Copy, Default)]
+#[derive(Clone, Copy, PartialEq, Eq, Debug, Default)]
 pub enum PictureStyle {
     #[default]
     Runs,
@@ -12,7 +16,7 @@ pub enum PictureStyle {
 }
 
 // What a scan finds: as text, or a character to a line as a number.
-#[derive(Clone, Copy, Default)]
+#[derive(Clone, Copy, PartialEq, Eq, Debug, Default)]
 pub enum FoundStyle {
     #[default]
     Text,
@@ -20,25 +24,32 @@ pub enum FoundStyle {
     Decimal,
 }
 
-// The form that has this word, or none.
-pub fn picture_style_named(word: &str) -> Option<PictureStyle>
-    ensures { NamedBy picture_word word.now result }
-{
-    match word {
-        "runs" => Some(PictureStyle::Runs),
-        "bytes" => Some(PictureStyle::Bytes),
-        "vcd" => Some(PictureStyle::Vcd),
-        _ => None,
+impl FromStr for PictureStyle {
+    type Err = Unnamed;
+
+    ghost from_str_gives = { λ word r. NamedBy picture_word word (result_ok r) };
+
+    fn from_str(word: &str) -> Result<PictureStyle, Unnamed> {
+        match word {
+            "runs" => Ok(PictureStyle::Runs),
+            "bytes" => Ok(PictureStyle::Bytes),
+            "vcd" => Ok(PictureStyle::Vcd),
+            _ => Err(Unnamed),
+        }
     }
 }
 
-pub fn found_style_named(word: &str) -> Option<FoundStyle>
-    ensures { NamedBy found_word word.now result }
-{
-    match word {
-        "text" => Some(FoundStyle::Text),
-        "hex" => Some(FoundStyle::Hex),
-        "decimal" => Some(FoundStyle::Decimal),
-        _ => None,
+impl FromStr for FoundStyle {
+    type Err = Unnamed;
+
+    ghost from_str_gives = { λ word r. NamedBy found_word word (result_ok r) };
+
+    fn from_str(word: &str) -> Result<FoundStyle, Unnamed> {
+        match word {
+            "text" => Ok(FoundStyle::Text),
+            "hex" => Ok(FoundStyle::Hex),
+            "decimal" => Ok(FoundStyle::Decimal),
+            _ => Err(Unnamed),
+        }
     }
 }
