@@ -2,7 +2,7 @@
 use anyhow::{Context, anyhow};
 use line::Format;
 use std::str::FromStr;
-use words::{Fault, Takes, Unnamed, Words, Wrong, format_named, number_written};
+use words::{Takes, Unnamed, Words, format_named, number_written};
 
 // The words behind a command. Its name is told where one is missing.
 #[derive(Clone, Copy)]
@@ -11,21 +11,13 @@ pub(crate) struct Given<'a> {
     words: Words<'a>,
 }
 
-fn complaint(Wrong { fault, word }: Wrong) -> anyhow::Error {
-    match fault {
-        Fault::NoValue => anyhow!("the option '{word}' has no value"),
-        Fault::Unknown => anyhow!("unknown option '{word}'"),
-        Fault::TooMany => anyhow!("one word too many: '{word}'"),
-    }
-}
-
 impl<'a> Given<'a> {
     pub(crate) fn new(
         command: &'static str,
         takes: Takes<'static>,
         words: &'a [String],
     ) -> anyhow::Result<Given<'a>> {
-        let words = Words::new(takes, words).map_err(complaint)?;
+        let words = Words::new(takes, words).map_err(|wrong| anyhow!("{wrong}"))?;
         Ok(Given { command, words })
     }
 

@@ -1,8 +1,8 @@
 -- The words behind a command.
-use Rattle.std.specs.Prelude.{ℕ, ◌-◌, ◌==◌, Bool, List, [], ◌∷◌, if◌then◌else◌, Option, Some, None, String, map, string_bytes, bytes_eq, nat_eq, codes}
+use Rattle.std.specs.Prelude.{ℕ, ◌-◌, ◌==◌, Bool, List, [], ◌∷◌, ◌++◌, if◌then◌else◌, Option, Some, None, String, map, string_bytes, bytes_eq, nat_eq, codes}
 use Rattle.std.specs.List.{list_any, starts_with}
-use Rattle.words.specs.declared.options.Fault.{Fault}
-use Rattle.words.specs.declared.options.Fault.TheVariants.{NoValue, Unknown, TooMany}
+use Rattle.words.specs.declared.options.Wrong.{Wrong}
+use Rattle.words.specs.declared.options.Wrong.TheVariants.{NoValue, Unknown, TooMany}
 use denote.Ref.{Bor}
 
 -- the letters of each word
@@ -18,16 +18,33 @@ option_now (Some w) = Some w.now
 abbrev pub known : List (Bor (List ℕ)) → List ℕ → Bool
 known names w = list_any (λ y. bytes_eq y.now w) names
 
+-- what may be wrong with a word of these letters
+pub data Fault : Type 0 where
+  no_value : List ℕ → Fault
+  unknown : List ℕ → Fault
+  too_many : List ℕ → Fault
+
+abbrev pub fault_of : Wrong → Fault
+fault_of (NoValue w) = no_value w.now
+fault_of (Unknown w) = unknown w.now
+fault_of (TooMany w) = too_many w.now
+
+-- and what is said of it
+abbrev pub told : Wrong → List ℕ
+told (NoValue w) = codes "the option '" ++ (w.now ++ codes "' has no value")
+told (Unknown w) = codes "unknown option '" ++ (w.now ++ codes "'")
+told (TooMany w) = codes "one word too many: '" ++ (w.now ++ codes "'")
+
 -- the first word with a fault, behind an option that waits for its value, if one does, and where so many words may still
 -- come that are neither options nor their values
-unfoldable pub first_fault : List (Bor (List ℕ)) → ℕ → Option (List ℕ) → List (List ℕ) → Option (Fault × List ℕ)
+unfoldable pub first_fault : List (Bor (List ℕ)) → ℕ → Option (List ℕ) → List (List ℕ) → Option Fault
 first_fault names left None [] = None
-first_fault names left (Some o) [] = Some (NoValue, o)
+first_fault names left (Some o) [] = Some (no_value o)
 first_fault names left (Some o) (v ∷ ws) = first_fault names left None ws
 first_fault names left None (w ∷ ws) =
     if known names w then first_fault names left (Some w) ws
-    else if starts_with nat_eq w (codes "--") then Some (Unknown, w)
-    else if left == 0 then Some (TooMany, w)
+    else if starts_with nat_eq w (codes "--") then Some (unknown w)
+    else if left == 0 then Some (too_many w)
     else first_fault names (left - 1) None ws
 
 -- the value of the last option of this name, or else what was found before; behind an option that waits for its value, if one does

@@ -12,6 +12,6 @@ pub mod unnamed;
 pub use commands::Command;
 pub use format_names::format_named;
 pub use numbers::number_written;
-pub use options::{Fault, Takes, Words, Wrong};
+pub use options::{Takes, Words, Wrong};
 pub use styles::{FoundStyle, PictureStyle};
 pub use unnamed::Unnamed;

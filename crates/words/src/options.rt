@@ -1,6 +1,9 @@
 // The words behind a command: options, each with its value behind it, and others.
 ghost use Rattle.std.specs.Prelude.{◌≡◌, Some, None, MatchResult, IfOk};
-ghost use Rattle.words.specs.Options.{known, first_fault, option_value, other_word, texts, option_now};
+ghost use Rattle.words.specs.Options.{known, fault_of, told, first_fault, option_value, other_word, texts, option_now};
+
+use std::error::Error;
+use std::fmt;
 
 // What a command takes: the options that it knows, and so many other words.
 #[derive(Clone, Copy)]
@@ -19,19 +22,27 @@ impl<'a> Takes<'a> {
 
 // What is wrong with a word.
 #[derive(Clone, Copy, PartialEq, Eq, Debug)]
-pub enum Fault {
+pub enum Wrong<'a> {
     // it is the last word, and an option, so its value is missing
-    NoValue,
+    NoValue(&'a str),
     // it looks like an option, but the command knows no such
-    Unknown,
-    TooMany,
+    Unknown(&'a str),
+    TooMany(&'a str),
 }
 
-#[derive(Clone, Copy)]
-pub struct Wrong<'a> {
-    pub fault: Fault,
-    pub word: &'a str,
+impl<'a> fmt::Display for Wrong<'a> {
+    ghost output = { λ wrong. Some (told wrong) };
+
+    fn fmt<W: fmt::Write>(&self, f: &mut fmt::Formatter<W>) -> fmt::Result {
+        match self {
+            Wrong::NoValue(word) => write!(f, "the option '{word}' has no value"),
+            Wrong::Unknown(word) => write!(f, "unknown option '{word}'"),
+            Wrong::TooMany(word) => write!(f, "one word too many: '{word}'"),
+        }
+    }
 }
+
+impl<'a> Error for Wrong<'a> {}
 
 // The words behind a command, and what it takes.
 #[derive(Clone, Copy)]
@@ -43,7 +54,7 @@ pub struct Words<'a> {
 impl<'a> Words<'a> {
     // The words, or what is wrong with the first that has a fault.
     pub fn new(takes: Takes<'a>, words: &'a [String]) -> Result<Words<'a>, Wrong<'a>>
-        ensures first { MatchResult result (λ _. first_fault takes.entry.options.now takes.entry.others None (texts words.now) ≡ None) (λ e. first_fault takes.entry.options.now takes.entry.others None (texts words.now) ≡ Some (e.fault, e.word.now)) }
+        ensures first { MatchResult result (λ _. first_fault takes.entry.options.now takes.entry.others None (texts words.now) ≡ None) (λ e. first_fault takes.entry.options.now takes.entry.others None (texts words.now) ≡ Some (fault_of e)) }
         ensures kept { IfOk result (λ w. (w.takes ≡ takes.entry) × (w.words.now ≡ words.now)) }
     {
         let mut left = takes.others;
@@ -52,15 +63,12 @@ impl<'a> Words<'a> {
             let word = word.as_str();
             if takes.knows(word) {
                 if rest.next().is_none() {
-                    let fault = Fault::NoValue;
-                    return Err(Wrong { fault, word });
+                    return Err(Wrong::NoValue(word));
                 }
             } else if word.starts_with("--") {
-                let fault = Fault::Unknown;
-                return Err(Wrong { fault, word });
+                return Err(Wrong::Unknown(word));
             } else if left == 0 {
-                let fault = Fault::TooMany;
-                return Err(Wrong { fault, word });
+                return Err(Wrong::TooMany(word));
             } else {
                 left -= 1;
             }
