@@ -1,5 +1,5 @@
 -- The letters of a name.
-use Rattle.std.proofs.Common.{◌≡◌, ℕ, ◌+◌, Bool, true, false, cond, List, [], ◌∷◌, ◌++◌, length, get_or, Some, None, Option, Ok, Err, Result, sym, refl, ap, ◌∙◌, ap₂, arith, MatchOption}
+use Rattle.std.proofs.Common.{◌≡◌, ℕ, ◌+◌, Bool, true, false, if◌then◌else◌, List, [], ◌∷◌, ◌++◌, length, slice_index, Some, None, Option, Ok, Err, Result, sym, refl, ap, ◌∙◌, ap₂, arith, MatchOption}
 use Rattle.std.specs.Result.{result_ok}
 use Rattle.line.specs.declared.refusal.Refusal.{Refusal}
 use Rattle.line.specs.declared.format.DataBits.{DataBits}
@@ -13,14 +13,14 @@ use Rattle.words.specs.Names.{NamedBy, size_letter, parity_letter, stops_letter,
 
 -- a name with these letters about the place of the A
 abbrev spelled : ℕ → Bool → ℕ → ℕ → List ℕ
-spelled s ad p t = s ∷ (cond ad (0x41 ∷ []) [] ++ (p ∷ (t ∷ [])))
+spelled s ad p t = s ∷ ((if ad then 0x41 ∷ [] else []) ++ (p ∷ (t ∷ [])))
 
 -- the letters tell whether there is an A
 letters : (ad be : Bool) (s p t a b c : ℕ) → spelled s ad p t ≡ spelled a be b c → (s ≡ a) × (ad ≡ be) × (p ≡ b) × (t ≡ c)
 letters true true s p t a b c is = (cc, refl, cc, cc)
 letters false false s p t a b c is = (cc, refl, cc, cc)
-letters true false s p t a b c is = absurd (let z : ◌≡◌ {A = ℕ} 4 3 = ap length is in omega arith)
-letters false true s p t a b c is = absurd (let z : ◌≡◌ {A = ℕ} 3 4 = ap length is in omega arith)
+letters true false s p t a b c is = absurd cc
+letters false true s p t a b c is = absurd cc
 
 -- a format has this name exactly where it has these letters
 module _ (be : Bool) (a b c : ℕ) where
@@ -38,16 +38,16 @@ module _ (be : Bool) (a b c : ℕ) where
   by_letters xs None is h = λ f e. h f (form_of f (e ∙ is))
   by_letters xs (Some f) is h = named f h ∙ sym is
 
-pub three : (xs : List ℕ) → length xs ≡ 3 → xs ≡ get_or xs 0 0 ∷ (get_or xs 1 0 ∷ (get_or xs 2 0 ∷ []))
+pub three : (xs : List ℕ) → length xs ≡ 3 → xs ≡ slice_index xs 0 ∷ (slice_index xs 1 ∷ (slice_index xs 2 ∷ []))
 three [] n = absurd (omega arith)
 three (a ∷ []) n = absurd (omega arith)
 three (a ∷ (b ∷ [])) n = absurd (omega arith)
 three (a ∷ (b ∷ (c ∷ []))) n = refl
 three (a ∷ (b ∷ (c ∷ (d ∷ xs)))) n = absurd (omega arith)
 
-pub four : (xs : List ℕ) → length xs ≡ 4 → get_or xs 1 0 ≡ 0x41 → xs ≡ get_or xs 0 0 ∷ (0x41 ∷ (get_or xs 2 0 ∷ (get_or xs 3 0 ∷ [])))
+pub four : (xs : List ℕ) → length xs ≡ 4 → slice_index xs 1 ≡ 0x41 → xs ≡ slice_index xs 0 ∷ (0x41 ∷ (slice_index xs 2 ∷ (slice_index xs 3 ∷ [])))
 four [] n is = absurd (omega arith)
-four (a ∷ xs) n is = ap {B = List ℕ} (λ ys. a ∷ ys) (three xs (omega arith)) ∙ ap {B = List ℕ} (λ m. a ∷ (m ∷ (get_or xs 1 0 ∷ (get_or xs 2 0 ∷ [])))) is
+four (a ∷ xs) n is = ap {B = List ℕ} (λ ys. a ∷ ys) (three xs (omega arith)) ∙ ap {B = List ℕ} (λ m. a ∷ (m ∷ (slice_index xs 1 ∷ (slice_index xs 2 ∷ [])))) is
 
 -- what has the digit of its count as its letter is named by its letter
 pub by_digit : {A : Type 0} (name count : A → ℕ) (l n : ℕ) (r : Result A Refusal) (a : Option A) → ((x : A) → name x ≡ 0x30 + count x) → l ≡ 0x30 + n → a ≡ result_ok r
