@@ -47,9 +47,9 @@ fn print_entry(rt: &impl Print, style: FoundStyle, (character, bits): (u16, u8))
 }
 
 // Says what is wrong with a capture, and where it stands.
-fn complaint(fault: Fault, name: &str) -> anyhow::Error {
+fn complaint(fault: Fault) -> anyhow::Error {
     match fault {
-        Fault::Unread(error) => anyhow!("cannot read {name}: {error}"),
+        Fault::Unread(error) => error.into(),
         Fault::NotALevel(place) => anyhow!(
             "byte {place} of the capture is no level: it is neither 0 nor 1"
         ),
@@ -71,16 +71,13 @@ fn print_pieces<I: Read>(
     style: FoundStyle,
     pieces: &mut Pieces,
     input: &mut I,
-    name: &str,
     buffer: &mut [u8],
     entries: &mut [(u16, u8)],
 ) -> anyhow::Result<()> {
     // how long the input is nobody knows, and each loop must end
     for _ in 0..u64::MAX {
         let before = pieces.before();
-        let piece = pieces
-            .next(input, buffer, entries)
-            .map_err(|fault| complaint(fault, name))?;
+        let piece = pieces.next(input, buffer, entries).map_err(complaint)?;
         if piece.bytes == 0 {
             break;
         }
@@ -107,7 +104,6 @@ fn scan_capture<I: Read>(
         style,
         &mut pieces,
         input,
-        name,
         buffer.as_mut_slice(),
         entries.as_mut_slice(),
     )?;
@@ -128,10 +124,7 @@ fn scan_file(
     // the whole capture is looked through before anything is written
     let mut buffer = vec![in rt.alloc(); 0; PIECE]?;
     let name = format!(in rt.alloc(); "the file '{path}'")?;
-    let bytes = look_through(&mut first, buffer.as_mut_slice()).map_err(|fault| complaint(
-        fault,
-        name.as_str(),
-    ))?;
+    let bytes = look_through(&mut first, buffer.as_mut_slice()).map_err(complaint)?;
     ensure!(bytes > 0, "empty capture '{path}'");
     let mut file = File::open(rt, path).context(format_args!("cannot reopen the file '{path}'"))?;
     scan_capture(rt, timing, style, &mut file, name.as_str())

@@ -31,7 +31,7 @@ fault_of (TooMany w) = too_many w.now
 
 -- and what is said of it
 abbrev pub told : Wrong → List ℕ
-told (NoValue w) = codes "the option '" ++ (w.now ++ codes "' has no value")
+told (NoValue w) = codes "the last option has no value"
 told (Unknown w) = codes "unknown option '" ++ (w.now ++ codes "'")
 told (TooMany w) = codes "one word too many: '" ++ (w.now ++ codes "'")
 

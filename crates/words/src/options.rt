@@ -35,7 +35,7 @@ impl<'a> fmt::Display for Wrong<'a> {
 
     fn fmt<W: fmt::Write>(&self, f: &mut fmt::Formatter<W>) -> fmt::Result {
         match self {
-            Wrong::NoValue(word) => write!(f, "the option '{word}' has no value"),
+            Wrong::NoValue(_) => f.write_str("the last option has no value"),
             Wrong::Unknown(word) => write!(f, "unknown option '{word}'"),
             Wrong::TooMany(word) => write!(f, "one word too many: '{word}'"),
         }
