@@ -1,28 +1,16 @@
 -- Fit goes from bit to bit, and passes exactly where no bit is early or late.
-use Rattle.std.proofs.Common.{◌≡◌, ℕ, zero, suc, ◌+◌, ◌*◌, ◌<◌, ◌≤◌, List, [], ◌∷◌, slice_index, Ok, Err, refl, ap, ◌∙◌, subst, ap₂, ⊎_elim, arith}
+use Rattle.std.proofs.Common.{◌≡◌, ℕ, zero, suc, ◌+◌, ◌*◌, ◌<◌, ◌≤◌, slice_index, Ok, Err, refl, subst, ap₂, ⊎_elim, arith}
 use Rattle.std.proofs.lemmas.Bool.{cases_lt}
 use Rattle.std.proofs.lemmas.Bool.Decides.{nat_tests}
 use Rattle.line.specs.Frames.{first_stop}
 use Rattle.ends.specs.Times.{start_of}
 use Rattle.ends.specs.Sender.{SenderState}
 use Rattle.ends.specs.Receiver.{ReceiverState, first_sample, third_sample}
+use Rattle.ends.proofs.Held.{start_more}
 use Rattle.link.specs.declared.rates.Verdict.{Verdict}
 use Rattle.link.specs.declared.rates.Verdict.TheVariants.{Passes, Late as IsLate}
 use Rattle.link.specs.Fit.{Early, Late, Fits}
 use Rattle.link.specs.Judging.{bit_judged, judged}
-
--- a bit begins where the one before it ends
-pub start_more : (ns : List ℕ) (k : ℕ) → start_of ns (k + 1) ≡ start_of ns k + slice_index ns k
-start_more ns k = ap (λ (x : ℕ). start_of ns x) (one k) ∙ go ns k
-  where
-    one : (k : ℕ) → k + 1 ≡ suc k
-    one k = omega arith
-
-    go : (ns : List ℕ) (k : ℕ) → start_of ns (suc k) ≡ start_of ns k + slice_index ns k
-    go [] zero = refl
-    go [] (suc k) = refl
-    go (n ∷ ns) zero = omega arith
-    go (n ∷ ns) (suc k) = omega (arith, go ns k)
 
 module _ (s : SenderState) (r : ReceiverState) (a b : ℕ) where
   passed_on : (k n : ℕ) → judged s r a b k (suc n) ≡ Passes
@@ -53,11 +41,6 @@ module _ (s : SenderState) (r : ReceiverState) (a b : ℕ) where
 
   pub fits_passes : Fits s r a b → judged s r a b 0 (1 + first_stop r.format) ≡ Passes
   fits_passes f = all_good (1 + first_stop r.format) 0 (λ j low high. f j (omega arith))
-
--- no bit is longer than 65,536 clocks
-pub start_most : (ns : List ℕ) → ((k : ℕ) → slice_index ns k ≤ 65536) → (k : ℕ) → start_of ns k ≤ 65536 * k
-start_most ns short zero = omega arith
-start_most ns short (suc k) = let one : k + 1 ≡ suc k = omega arith in omega (arith, start_most ns short k, short k, start_more ns k, ap (start_of ns) one)
 
 -- one bit, by the numbers at hand: the rates, where it begins and how long it lasts, and its first and third sample
 module _ (s : SenderState) (r : ReceiverState) (a b k : ℕ) {send receive begin length first third : ℕ} (sends : send ≡ a) (receives : receive ≡ b)

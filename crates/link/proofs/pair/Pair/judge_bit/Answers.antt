@@ -1,7 +1,8 @@
 -- A bit is judged by where it begins and ends and when it is sampled.
 use Rattle.std.proofs.Common.{ℕ, ◌^◌, ◌<◌, ◌∙◌, arith, w64, Fits, rules}
 use Rattle.std.proofs.lemmas.Nat.{mul-le}
-use Rattle.link.proofs.Judging.{start_most, is_late, is_good}
+use Rattle.ends.proofs.Held.{start_most}
+use Rattle.link.proofs.Judging.{is_late, is_good}
 use Rattle.link.proofs.pair.Pair.judge_bit.Goals as goal
 
 fits_below : (n : ℕ) → n < 2 ^ 64 → Fits w64 n
