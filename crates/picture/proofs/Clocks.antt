@@ -1,5 +1,5 @@
 -- How many clocks bits and frames take, and what is left of a frame after some of its bits.
-use Rattle.std.proofs.Common.{◌≡◌, ℕ, zero, suc, ◌+◌, ◌-◌, ◌*◌, ◌/◌, ◌%◌, ◌<◌, ◌≤◌, List, [], ◌∷◌, ◌++◌, map, length, get_or, take, drop, replicate, sym, refl, ap, ◌∙◌, ap₂, suc-mul, arith}
+use Rattle.std.proofs.Common.{◌≡◌, ℕ, suc, ◌+◌, ◌-◌, ◌*◌, ◌/◌, ◌%◌, ◌<◌, ◌≤◌, List, [], ◌∷◌, ◌++◌, map, length, get_or, take, drop, replicate, sym, refl, ap, ◌∙◌, ap₂, suc-mul, arith}
 use lib.LanesLaws.{map-replicate}
 use lib.ListN.{get_or-map}
 use Rattle.std.specs.List.{sum_by}
@@ -29,12 +29,6 @@ bits_most f = omega (arith, frame_length f 0, frame_fits f 0)
 pub same_sum : (ns : List ℕ) → sum_by (λ x. x) ns ≡ sum ns
 same_sum [] = refl
 same_sum (n ∷ ns) = sum_by-cons (λ x. x) n ns ∙ ap (λ (m : ℕ). n + m) (same_sum ns)
-
--- no bit lasts longer than 65,536 clocks
-pub clocks_most : (ns : List ℕ) (k : ℕ) → ((i : ℕ) → get_or ns i 0 ≤ 65536) → start_of ns k ≤ 65536 * k
-clocks_most ns zero h = omega arith
-clocks_most [] (suc k) h = omega arith
-clocks_most (n ∷ ns) (suc k) h = omega (arith, h 0, clocks_most ns k (λ i. h (suc i)))
 
 levels_length : (t : Timing) (c : ℕ) → length (held t.lengths (frame t.format c)) ≡ frame_clocks t
 levels_length t c = held_length t.lengths (frame t.format c) ∙ ap (start_of t.lengths) (frame_length t.format c)

@@ -68,7 +68,7 @@ fn sample_clocks(lengths: &[u32]) -> [u32; 36]
     let mut clocks = [0; 36];
     let mut start = 0;
     // By place: of what a loop over `chunks_exact_mut` wrote, a proof knows no more than how long it is. One by one, since a processor waits
-    // where three numbers that were just stored are copied as one piece: it cost a quarter of a call of Fit.
+    // where numbers that were just stored are copied as one piece: that took more than half of a call of Fit.
     for (k, length) in lengths.iter().enumerate() {
         let [first, middle, last] = bit_samples(start, *length);
         clocks[3 * k] = first;

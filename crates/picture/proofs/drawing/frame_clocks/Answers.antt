@@ -6,7 +6,8 @@ use Rattle.std.proofs.lemmas.Iterator.Consumers.{YieldsList-at, fits_by_from_yie
 use Rattle.line.specs.Frames.{frame_bits}
 use Rattle.ends.specs.Times.{start_of}
 use Rattle.picture.specs.Drawing.{frame_clocks}
-use Rattle.picture.proofs.Clocks.{same_sum, clocks_most, bits_most}
+use Rattle.ends.proofs.Held.{start_most}
+use Rattle.picture.proofs.Clocks.{same_sum, bits_most}
 use Rattle.picture.proofs.drawing.frame_clocks.Goals as goal
 
 pub sum-requires-clause-fits : goal.sum-requires-clause-fits
@@ -14,7 +15,7 @@ sum-requires-clause-fits c =
     let t = c.args.timing.now in
     fits_by_from_yields_list (λ x. x) (take c.bits.result t.lengths) c.map.result 18446744073709551616
     (YieldsList-from_map _ (λ x. x) (YieldsList-at c.map.ensures.source (YieldsList-from_slice (take c.bits.result t.lengths) cc)) c.map.ensures.closure (λ x r q k. search (rules, tests)))
-    (omega (arith, same_sum (take c.bits.result t.lengths), clocks_most t.lengths c.bits.result t.short, bits_most t.format, c.bits.ensures))
+    (omega (arith, same_sum (take c.bits.result t.lengths), start_most t.lengths t.short c.bits.result, bits_most t.format, c.bits.ensures))
 
 pub returns-clause-value : goal.returns-clause-value
 returns-clause-value c =
@@ -28,4 +29,4 @@ pub returns-clause-bound : goal.returns-clause-bound
 returns-clause-bound c =
     let t = c.args.timing.now in
     let value : c.sum.result ≡ frame_clocks t = returns-clause-value c in
-    omega (arith, value, clocks_most t.lengths (frame_bits t.format) t.short, bits_most t.format)
+    omega (arith, value, start_most t.lengths t.short (frame_bits t.format), bits_most t.format)
