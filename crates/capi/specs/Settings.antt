@@ -1,5 +1,5 @@
 -- The times of an end that is given as plain numbers, and the number of an answer.
-use Rattle.std.specs.Prelude.{ℕ, Bool, true, false, if◌then◌else◌, Ok, Err, Result, ◌==◌, nat_le}
+use Rattle.std.specs.Prelude.{◌≡◌, ℕ, Bool, true, false, if◌then◌else◌, List, ◌++◌, drop, Ok, Err, Result, MatchResult, ◌==◌, nat_le}
 use Rattle.line.specs.declared.refusal.Refusal.{Refusal}
 use Rattle.line.specs.declared.refusal.Refusal.TheVariants.{OutOfRange}
 use Rattle.line.specs.Refusals.{number_of}
@@ -29,6 +29,14 @@ and_then (Err e) next = Err e
 abbrev pub answer_number : {A : Type 0} → Result A Refusal → ℕ
 answer_number (Ok x) = 0
 answer_number (Err e) = number_of e
+
+-- the list stands first, as long as the answer says, and nothing else is written
+abbrev pub Filled : {A : Type 0} → Result ℕ Refusal → List A → List A → List A → Type 0
+Filled r list new old = MatchResult r (λ n. new ≡ list ++ drop n old) (λ _. new ≡ old)
+
+-- what is answered stands in the place, and a refusal writes nothing
+abbrev pub Told : {A : Type 0} → Result A Refusal → A → A → Type 0
+Told r new old = MatchResult r (λ x. new ≡ x) (λ _. new ≡ old)
 
 abbrev pub size_of : ℕ → Result DataBits Refusal
 size_of n = if n == 7 then Ok Seven else (if n == 8 then Ok Eight else Err OutOfRange)

@@ -1,7 +1,7 @@
 // Drawing for programs in other languages.
-ghost use Rattle.std.specs.Prelude.{◌≡◌, ◌++◌, length, drop, IfOk, MatchResult};
+ghost use Rattle.std.specs.Prelude.{◌≡◌, length, IfOk};
 ghost use Rattle.picture.specs.Drawing.{AsSentAt};
-ghost use Rattle.capi.specs.Settings.{answer_number, end_times};
+ghost use Rattle.capi.specs.Settings.{answer_number, Filled, Told, end_times};
 ghost use Rattle.capi.specs.Drawing.{draw_result, drawing};
 
 use super::numbers::EndNumbers;
@@ -19,8 +19,8 @@ pub extern "C" fn hotskrebi_draw(
     written: &mut usize,
 ) -> u8
     ensures answer { result ≡ answer_number (draw_result end.now characters.now (length picture.old)) }
-    ensures picture { MatchResult (draw_result end.now characters.now (length picture.old)) (λ n. picture.new ≡ drawing end.now characters.now ++ drop n picture.old) (λ _. picture.new ≡ picture.old) }
-    ensures written { MatchResult (draw_result end.now characters.now (length picture.old)) (λ n. written.new ≡ n) (λ _. written.new ≡ written.old) }
+    ensures picture { Filled (draw_result end.now characters.now (length picture.old)) (drawing end.now characters.now) picture.new picture.old }
+    ensures written { Told (draw_result end.now characters.now (length picture.old)) written.new written.old }
     ensures sent { IfOk (end_times end.now) (λ t. AsSentAt t characters.now) }
 {
     tell(draw_at(end, characters, picture), written)
@@ -28,7 +28,7 @@ pub extern "C" fn hotskrebi_draw(
 
 fn draw_at(end: &EndNumbers, characters: &[u16], picture: &mut [u8]) -> Result<usize, Refusal>
     ensures answer { result ≡ draw_result end.now characters.now (length picture.old) }
-    ensures picture { MatchResult result (λ n. picture.new ≡ drawing end.now characters.now ++ drop n picture.old) (λ _. picture.new ≡ picture.old) }
+    ensures picture { Filled result (drawing end.now characters.now) picture.new picture.old }
     ensures sent { IfOk (end_times end.now) (λ t. AsSentAt t characters.now) }
 {
     draw(&Timing::try_from(*end)?, characters, picture)

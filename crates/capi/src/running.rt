@@ -1,12 +1,12 @@
 // Runs of a link for programs in other languages.
-ghost use Rattle.std.specs.Prelude.{◌≡◌, ◌≤◌, ◌++◌, map, length, drop, IfOk, MatchResult};
+ghost use Rattle.std.specs.Prelude.{◌≡◌, ◌≤◌, ◌++◌, map, length, drop, IfOk};
 ghost use Rattle.ends.specs.BareSender.{meant as sending};
 ghost use Rattle.ends.specs.BareReceiver.{meant as receiving};
 ghost use Rattle.queue.specs.Queues.{queued_to, queued_from};
 ghost use Rattle.link.specs.Link.{after_act};
 ghost use Rattle.link.specs.Acts.{link_of, answer};
 ghost use Rattle.link.specs.Delivery.{Delivers};
-ghost use Rattle.capi.specs.Settings.{answer_number};
+ghost use Rattle.capi.specs.Settings.{answer_number, Filled};
 ghost use Rattle.capi.specs.Translating.{act_of, act_check, acts_check, told_answer};
 ghost use Rattle.capi.specs.Running.{told_answers, joined, joined_queued, made, run_result, answers_at};
 
@@ -28,7 +28,7 @@ pub extern "C" fn hotskrebi_run(
     answers: &mut [AnswerNumbers],
 ) -> u8
     ensures answer { result ≡ answer_number (run_result (joined sender.now receiver.now) acts.now (length answers.old)) }
-    ensures answers { MatchResult (run_result (joined sender.now receiver.now) acts.now (length answers.old)) (λ n. answers.new ≡ answers_at (joined sender.now receiver.now) acts.now ++ drop n answers.old) (λ _. answers.new ≡ answers.old) }
+    ensures answers { Filled (run_result (joined sender.now receiver.now) acts.now (length answers.old)) (answers_at (joined sender.now receiver.now) acts.now) answers.new answers.old }
     ensures delivers { IfOk (joined sender.now receiver.now) (λ m. Delivers m (map act_of acts.now)) }
 {
     answer_number(run(bare_link(sender, receiver), acts, answers))
@@ -53,7 +53,7 @@ pub extern "C" fn hotskrebi_run_queued(
     answers: &mut [AnswerNumbers],
 ) -> u8
     ensures answer { result ≡ answer_number (run_result (joined_queued sender.now receiver.now) acts.now (length answers.old)) }
-    ensures answers { MatchResult (run_result (joined_queued sender.now receiver.now) acts.now (length answers.old)) (λ n. answers.new ≡ answers_at (joined_queued sender.now receiver.now) acts.now ++ drop n answers.old) (λ _. answers.new ≡ answers.old) }
+    ensures answers { Filled (run_result (joined_queued sender.now receiver.now) acts.now (length answers.old)) (answers_at (joined_queued sender.now receiver.now) acts.now) answers.new answers.old }
     ensures delivers { IfOk (joined_queued sender.now receiver.now) (λ m. Delivers m (map act_of acts.now)) }
 {
     answer_number(run(queued_link(sender, receiver), acts, answers))
@@ -76,7 +76,7 @@ fn run<S: Sender + Drop, R: Receiver + Drop>(
     answers: &mut [AnswerNumbers],
 ) -> Result<usize, Refusal>
     ensures answer { result ≡ run_result (made S.Sender.meaning R.Receiver.meaning link) acts.now (length answers.old) }
-    ensures answers { MatchResult result (λ n. answers.new ≡ answers_at (made S.Sender.meaning R.Receiver.meaning link) acts.now ++ drop n answers.old) (λ _. answers.new ≡ answers.old) }
+    ensures answers { Filled result (answers_at (made S.Sender.meaning R.Receiver.meaning link) acts.now) answers.new answers.old }
 {
     let mut link = link?;
     check_all(acts)?;

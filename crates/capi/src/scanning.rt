@@ -1,7 +1,7 @@
 // Scanning for programs in other languages, into entries of plain numbers.
-ghost use Rattle.std.specs.Prelude.{◌≡◌, ◌++◌, length, drop, IfOk, MatchResult};
+ghost use Rattle.std.specs.Prelude.{◌≡◌, length, IfOk};
 ghost use Rattle.picture.specs.Scanning.{listed_at, RecoversAt};
-ghost use Rattle.capi.specs.Settings.{answer_number, end_times};
+ghost use Rattle.capi.specs.Settings.{answer_number, Filled, Told, end_times};
 ghost use Rattle.capi.specs.Scanning.{told_entry, scan_result, listing};
 
 use super::numbers::{EndNumbers, EntryNumbers};
@@ -27,8 +27,8 @@ pub extern "C" fn hotskrebi_scan(
     found: &mut usize,
 ) -> u8
     ensures answer { result ≡ answer_number (scan_result end.now picture.now (length entries.old)) }
-    ensures entries { MatchResult (scan_result end.now picture.now (length entries.old)) (λ n. entries.new ≡ listing end.now picture.now ++ drop n entries.old) (λ _. entries.new ≡ entries.old) }
-    ensures found { MatchResult (scan_result end.now picture.now (length entries.old)) (λ n. found.new ≡ n) (λ _. found.new ≡ found.old) }
+    ensures entries { Filled (scan_result end.now picture.now (length entries.old)) (listing end.now picture.now) entries.new entries.old }
+    ensures found { Told (scan_result end.now picture.now (length entries.old)) found.new found.old }
     ensures recovers { IfOk (end_times end.now) (λ t. RecoversAt t picture.now (listed_at t picture.now)) }
 {
     tell(scan_at(end, picture, entries), found)
@@ -36,7 +36,7 @@ pub extern "C" fn hotskrebi_scan(
 
 fn scan_at(end: &EndNumbers, picture: &[u8], entries: &mut [EntryNumbers]) -> Result<usize, Refusal>
     ensures answer { result ≡ scan_result end.now picture.now (length entries.old) }
-    ensures entries { MatchResult result (λ n. entries.new ≡ listing end.now picture.now ++ drop n entries.old) (λ _. entries.new ≡ entries.old) }
+    ensures entries { Filled result (listing end.now picture.now) entries.new entries.old }
     ensures recovers { IfOk (end_times end.now) (λ t. RecoversAt t picture.now (listed_at t picture.now)) }
 {
     scan(&Timing::try_from(*end)?, picture, entries)

@@ -1,6 +1,6 @@
 // What a call answers to another language.
-ghost use Rattle.std.specs.Prelude.{◌≡◌, MatchResult};
-ghost use Rattle.capi.specs.Settings.{answer_number};
+ghost use Rattle.std.specs.Prelude.{◌≡◌};
+ghost use Rattle.capi.specs.Settings.{answer_number, Told};
 
 use line::Refusal;
 
@@ -17,7 +17,7 @@ pub(crate) fn answer_number<T: Copy>(answer: Result<T, Refusal>) -> u8
 // The same, and what was found is written down where the caller wants it.
 pub(crate) fn tell<T: Copy>(answer: Result<T, Refusal>, place: &mut T) -> u8
     ensures answer { result ≡ answer_number answer }
-    ensures place { MatchResult answer (λ x. place.new ≡ x) (λ _. place.new ≡ place.old) }
+    ensures place { Told answer place.new place.old }
 {
     if let Ok(found) = &answer {
         *place = *found;
