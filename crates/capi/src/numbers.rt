@@ -3,7 +3,7 @@
 
 // A USART's settings, and its format.
 #[repr(C)]
-#[derive(Clone, Copy)]
+#[derive(Clone, Copy, PartialEq, Eq, Debug)]
 pub struct EndNumbers {
     pub divider: u16,
     pub modulator: u8,
@@ -16,7 +16,7 @@ pub struct EndNumbers {
 
 // A character, and the flags with which it arrived.
 #[repr(C)]
-#[derive(Clone, Copy)]
+#[derive(Clone, Copy, PartialEq, Eq, Debug)]
 pub struct EntryNumbers {
     pub character: u16,
     pub flags: u8,
@@ -24,7 +24,7 @@ pub struct EntryNumbers {
 
 // Whether rates fit.
 #[repr(C)]
-#[derive(Clone, Copy)]
+#[derive(Clone, Copy, PartialEq, Eq, Debug)]
 pub struct VerdictNumbers {
     // 0 where they pass, 1 where a bit is early, 2 where it is late
     pub verdict: u8,
@@ -34,7 +34,7 @@ pub struct VerdictNumbers {
 
 // What can be done to a link.
 #[repr(C)]
-#[derive(Clone, Copy)]
+#[derive(Clone, Copy, PartialEq, Eq, Debug)]
 pub struct ActNumbers {
     // 0 load, 1 send clock, 2 receive clock, 3 noise clock, 4 read
     pub kind: u8,
@@ -44,7 +44,7 @@ pub struct ActNumbers {
 
 // What comes of it.
 #[repr(C)]
-#[derive(Clone, Copy)]
+#[derive(Clone, Copy, PartialEq, Eq, Debug)]
 pub struct AnswerNumbers {
     // 0 done, 1 the level on the line, 2 a character and its flags, 3 refused
     pub kind: u8,
