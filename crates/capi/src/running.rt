@@ -21,6 +21,7 @@ use queue::{ReceiveQueue, SendQueue};
 
 // Joins two ends and does the acts one after the other; writes down what each answers.
 #[unsafe(no_mangle)]
+#[tactic(auto, using(crate::proofs::Acts::delivering))]
 pub extern "C" fn hotskrebi_run(
     sender: &EndNumbers,
     receiver: &EndNumbers,
@@ -46,6 +47,7 @@ fn bare_link(
 
 // The same with a queue in front of the sender and one behind the receiver.
 #[unsafe(no_mangle)]
+#[tactic(auto, using(crate::proofs::Acts::delivering))]
 pub extern "C" fn hotskrebi_run_queued(
     sender: &EndNumbers,
     receiver: &EndNumbers,
