@@ -72,6 +72,7 @@ fn queued_link(
 }
 
 // All acts are looked at first, so that none is done where one is declined.
+// The link comes as it was made or declined: with `and_then` in the callers, what becomes of the lent answers (`returns-clause-answers`) was left to prove.
 fn run<S: Sender + Drop, R: Receiver + Drop>(
     link: Result<Link<S, R>, Refusal>,
     acts: &[ActNumbers],
