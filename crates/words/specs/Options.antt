@@ -1,6 +1,10 @@
 -- The words behind a command.
-use Rattle.std.specs.Prelude.{ℕ, ◌-◌, ◌==◌, Bool, List, [], ◌∷◌, ◌++◌, if◌then◌else◌, Option, Some, None, String, map, string_bytes, bytes_eq, nat_eq, codes}
+use Rattle.std.specs.Prelude.{◌≡◌, ℕ, ◌-◌, ◌==◌, Bool, true, false, MatchOption, List, [], ◌∷◌, ◌++◌, if◌then◌else◌, Option, Some, None, String, map, string_bytes, bytes_eq, nat_eq, codes}
 use Rattle.std.specs.List.{list_any, starts_with}
+use Rattle.std.specs.Slice.Iter.{iter_rest}
+use Rattle.words.specs.declared.options.Piece.{Piece}
+use Rattle.words.specs.declared.options.Piece.TheVariants.{Known, Other}
+use Rattle.words.specs.declared.options.Pieces.{Pieces}
 use Rattle.words.specs.declared.options.Wrong.{Wrong}
 use Rattle.words.specs.declared.options.Wrong.TheVariants.{NoValue, Unknown, TooMany}
 use denote.Ref.{Bor}
@@ -63,3 +67,13 @@ other_word names at None (w ∷ ws) =
     if known names w then other_word names at (Some w) ws
     else if at == 0 then Some w
     else other_word names (at - 1) None ws
+
+-- these words begin with the piece, and these are behind it
+abbrev pub Begins : List (Bor (List ℕ)) → Piece → List (List ℕ) → List (List ℕ) → Type 0
+Begins names (Known w (Some v)) ws us = (known names w.now ≡ true) × (ws ≡ w.now ∷ (v.now ∷ us))
+Begins names (Known w None) ws us = (known names w.now ≡ true) × (ws ≡ w.now ∷ []) × (us ≡ [])
+Begins names (Other w) ws us = (known names w.now ≡ false) × (ws ≡ w.now ∷ us)
+
+-- none where no word is left, and else the piece with which the words begin
+abbrev pub GivesPiece : Pieces → Option Piece → Pieces → Type 0
+GivesPiece s r t = (t.takes ≡ s.takes) × MatchOption r (texts (iter_rest s.rest) ≡ []) (λ p. Begins s.takes.options.now p (texts (iter_rest s.rest)) (texts (iter_rest t.rest)))

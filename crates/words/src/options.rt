@@ -1,9 +1,11 @@
 // The words behind a command: options, each with its value behind it, and others.
-ghost use Rattle.std.specs.Prelude.{◌≡◌, Some, None, MatchResult, IfOk};
-ghost use Rattle.words.specs.Options.{known, fault_of, told, first_fault, option_value, other_word, texts, option_now};
+ghost use Rattle.std.specs.Prelude.{◌≡◌, length, Some, None, MatchResult, IfOk};
+ghost use Rattle.std.specs.Iterator.{at_most};
+ghost use Rattle.std.specs.Slice.Iter.{iter_rest};
+ghost use Rattle.words.specs.Options.{known, fault_of, told, first_fault, option_value, other_word, texts, option_now, GivesPiece};
 
 use std::error::Error;
-use std::fmt;
+use std::{fmt, slice};
 
 // What a command takes: the options that it knows, and so many other words.
 #[derive(Clone, Copy)]
@@ -44,6 +46,49 @@ impl<'a> fmt::Display for Wrong<'a> {
 
 impl<'a> Error for Wrong<'a> {}
 
+// A piece of the words: an option with its value, if one stands behind it, or another word.
+#[derive(Clone, Copy)]
+enum Piece<'a> {
+    Known(&'a str, Option<&'a str>),
+    Other(&'a str),
+}
+
+// The pieces still to be read.
+#[derive(Drop)]
+struct Pieces<'a> {
+    takes: Takes<'a>,
+    rest: slice::Iter<'a, String>,
+}
+
+impl<'a> Pieces<'a> {
+    fn new(takes: Takes<'a>, words: &'a [String]) -> Pieces<'a>
+        ensures takes { result.takes ≡ takes.entry }
+        ensures words { iter_rest result.rest ≡ words.now }
+    {
+        Pieces {
+            takes,
+            rest: words.iter(),
+        }
+    }
+}
+
+impl<'a> Iterator for Pieces<'a> {
+    type Item = Piece<'a>;
+
+    ghost next_gives = { GivesPiece };
+
+    ghost remaining = { λ s. at_most (length (iter_rest s.rest)) };
+
+    fn next(&mut self) -> Option<Piece<'a>> {
+        let word = self.rest.next()?.as_str();
+        Some(if self.takes.knows(word) {
+            Piece::Known(word, self.rest.next().map(|value| value.as_str()))
+        } else {
+            Piece::Other(word)
+        })
+    }
+}
+
 // The words behind a command, and what it takes.
 #[derive(Clone, Copy)]
 pub struct Words<'a> {
@@ -53,60 +98,51 @@ pub struct Words<'a> {
 
 impl<'a> Words<'a> {
     // The words, or what is wrong with the first that has a fault.
+    #[tactic(auto, unfolding(crate::specs::Options::first_fault))]
     pub fn new(takes: Takes<'a>, words: &'a [String]) -> Result<Words<'a>, Wrong<'a>>
         ensures first { MatchResult result (λ _. first_fault takes.entry.options.now takes.entry.others None (texts words.now) ≡ None) (λ e. first_fault takes.entry.options.now takes.entry.others None (texts words.now) ≡ Some (fault_of e)) }
         ensures kept { IfOk result (λ w. (w.takes ≡ takes.entry) × (w.words.now ≡ words.now)) }
     {
         let mut left = takes.others;
-        let mut rest = words.iter();
-        while let Some(word) = rest.next() {
-            let word = word.as_str();
-            if takes.knows(word) {
-                if rest.next().is_none() {
-                    return Err(Wrong::NoValue(word));
-                }
-            } else if word.starts_with("--") {
-                return Err(Wrong::Unknown(word));
-            } else if left == 0 {
-                return Err(Wrong::TooMany(word));
-            } else {
-                left -= 1;
+        for piece in Pieces::new(takes, words) {
+            match piece {
+                Piece::Known(_, Some(_)) => {}
+                Piece::Known(word, None) => return Err(Wrong::NoValue(word)),
+                Piece::Other(word) if word.starts_with("--") => return Err(Wrong::Unknown(word)),
+                Piece::Other(word) if left == 0 => return Err(Wrong::TooMany(word)),
+                Piece::Other(_) => left -= 1,
             }
         }
         Ok(Words { takes, words })
     }
 
     // The value of an option, if it was given. Of several given alike the last counts.
+    #[tactic(auto, unfolding(crate::specs::Options::option_value))]
     pub fn option(&self, name: &str) -> Option<&'a str>
         ensures { option_now result ≡ option_value self.now.takes.options.now name.now None None (texts self.now.words.now) }
     {
         let mut found = None;
-        let mut rest = self.words.iter();
-        while let Some(word) = rest.next() {
-            let word = word.as_str();
-            if self.takes.knows(word)
-                && let Some(value) = rest.next()
+        for piece in Pieces::new(self.takes, self.words) {
+            if let Piece::Known(word, Some(value)) = piece
                 && word == name
             {
-                found = Some(value.as_str());
+                found = Some(value);
             }
         }
         found
     }
 
     // The word with this number, from 0, among those that are neither options nor their values.
+    #[tactic(auto, unfolding(crate::specs::Options::other_word))]
     pub fn other(&self, at: usize) -> Option<&'a str>
         ensures { option_now result ≡ other_word self.now.takes.options.now at None (texts self.now.words.now) }
     {
         let mut left = at;
-        let mut rest = self.words.iter();
-        while let Some(word) = rest.next() {
-            let word = word.as_str();
-            if self.takes.knows(word) {
-                let _ = rest.next();
-            } else if left == 0 {
-                return Some(word);
-            } else {
+        for piece in Pieces::new(self.takes, self.words) {
+            if let Piece::Other(word) = piece {
+                if left == 0 {
+                    return Some(word);
+                }
                 left -= 1;
             }
         }

@@ -4,5 +4,5 @@ use Rattle.std.specs.Slice.Iter.{iter_rest}
 use Rattle.words.specs.Options.{first_fault, texts}
 use Rattle.words.proofs.options.Words.new.Given as goal
 
-abbrev pub invariant-loop-word : goal.invariant-loop-word
-invariant-loop-word l = first_fault l.takes.options.now l.left None (texts (iter_rest l.rest)) ≡ first_fault l.takes.options.now l.initial.left None (texts l.words)
+abbrev pub invariant-loop-piece : goal.invariant-loop-piece
+invariant-loop-piece l = (l.piece-iterator.takes ≡ l.takes) × (first_fault l.takes.options.now l.left None (texts (iter_rest l.piece-iterator.rest)) ≡ first_fault l.takes.options.now l.initial.left None (texts l.words))
