@@ -133,6 +133,8 @@ impl<'a> Words<'a> {
     }
 
     // The word with this number, from 0, among those that are neither options nor their values.
+    // Counted by hand: tried as `filter_map(..).nth(at)`, where `returns` was left, of which the two adapters tell only by the runs of
+    // the iterator below them.
     #[tactic(auto, unfolding(crate::specs::Options::other_word))]
     pub fn other(&self, at: usize) -> Option<&'a str>
         ensures { option_now result ≡ other_word self.now.takes.options.now at None (texts self.now.words.now) }
