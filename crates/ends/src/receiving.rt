@@ -116,6 +116,17 @@ impl Samples {
         self.count >= 3 && self.bit(0) == Level::Mark
     }
 
+    // What a clock that does not end the frame comes to.
+    fn progress(&self) -> Progress
+        ensures { (n : ℕ) → heard_of result n (taken self.now) ≡ nothing (going_on (decided (taken self.now)) n (taken self.now)) }
+    {
+        if self.is_false_start() {
+            Progress::FalseStart
+        } else {
+            Progress::GoesOn
+        }
+    }
+
     // The samples of a frame after its first clock, whose level is space. Out of line: it comes once a frame.
     #[inline(never)]
     fn begin(timing: &Timing) -> Samples
@@ -144,10 +155,7 @@ impl Samples {
             let digits = self.digits(timing.format.first_stop() + 1);
             return Progress::Over(entry(timing.format, digits));
         }
-        if self.is_false_start() {
-            return Progress::FalseStart;
-        }
-        Progress::GoesOn
+        self.progress()
     }
 }
 

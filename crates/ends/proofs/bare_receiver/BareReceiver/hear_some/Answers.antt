@@ -1,5 +1,5 @@
 -- The clock of the next sample, or bytes that end before it.
-use Rattle.std.proofs.Common.{◌≡◌, ℕ, ◌+◌, ◌-◌, ◌<◌, ◌≤◌, List, length, map, take, get_or, sym, ap, ◌∙◌, subst, arith, rules}
+use Rattle.std.proofs.Common.{◌≡◌, ℕ, ◌+◌, ◌-◌, ◌<◌, ◌≤◌, List, length, map, take, get_or, sym, refl, ap, ◌∙◌, subst, arith, rules}
 use Rattle.std.specs.Option.{option_to_list}
 use Rattle.std.proofs.lemmas.List.{length-map, length-take-le, take_all}
 use Rattle.line.specs.declared.level.Level.{Level}
@@ -60,6 +60,11 @@ passes r n k s bs f within h =
     (subst (λ (m : ℕ). Passed (with (meant r) us r.previous (framing n (taken s))) (with (meant r) us (last_of r.previous ls) (framing (n + m) (taken s))) ls) long
     (frame_passes (meant r) us r.previous n (taken s) ls f.going (subst (λ (m : ℕ). Between (sample_clocks r.timing) n m) (sym long) (between r n k s f h))))
 
+-- where that is the clock before the next sample's
+up_to_sample : (r : BareReceiver) (n k : ℕ) (s : Samples) (bs : List ℕ) → r.doing ≡ Framing n s → k ≡ get_or r.timing.samples s.count 0 - n - 1 → k < length bs
+    → Passed (meant r) (with (meant r) (option_to_list r.unread) (last_of r.previous (map level_of (take k bs))) (framing (n + k) (taken s))) (map level_of (take k bs))
+up_to_sample r n k s bs is before within = let f = in_frame r n s is in passes r n k s bs f (omega (arith, within)) (omega (arith, f.ahead, before))
+
 -- the frame k clocks later is in step, and goes on
 step_later : (r : BareReceiver) (n k : ℕ) (s : Samples) → Frame r n s → n + k < get_or r.timing.samples s.count 0 → s.count ≡ falling_before (n + k + 1) (sample_clocks r.timing)
 step_later r n k s f h = f.in_step ∙ sym (same_before (sample_clocks r.timing) n k (between r n k s f h))
@@ -105,24 +110,18 @@ returns-in-Some-clause-state c =
     let s = c.in-Framing.samples in
     let bs = c.args.bytes.now in
     let k : ℕ = get_or r.timing.samples s.count 0 - n - 1 in
-    let f = in_frame r n s c.in-Framing.is in
     let within : k < length bs = search rules in
     let byte : c.in-Some.byte.now ≡ get_or bs k 0 = search rules in
-    let p = passes r n k s bs f (omega (arith, within)) (omega (arith, f.ahead)) in
     c.clock.ensures
     ∙ ap (λ l. after_clock (with (meant r) (option_to_list r.unread) r.previous (framing (n + k) (taken s))) l) (c.level_of.ensures ∙ ap level_of byte)
-    ∙ sym (next_heard (meant r) _ bs k within p.state)
+    ∙ sym (next_heard (meant r) _ bs k within (up_to_sample r n k s bs c.in-Framing.is refl within).state)
 
 pub returns-in-Some-clause-quiet : goal.returns-in-Some-clause-quiet
 returns-in-Some-clause-quiet c =
-    let r = c.args.self.now in
-    let n : ℕ = c.in-Framing.clock in
-    let s = c.in-Framing.samples in
-    let bs = c.args.bytes.now in
-    let k : ℕ = get_or r.timing.samples s.count 0 - n - 1 in
-    let f = in_frame r n s c.in-Framing.is in
-    let within : k < length bs = search rules in
-    (passes r n (k + 1 - 1) s bs f (omega (arith, within)) (omega (arith, f.ahead))).quiet
+    let t = c.args.self.now.timing in
+    let k : ℕ = get_or t.samples c.in-Framing.samples.count 0 - c.in-Framing.clock - 1 in
+    let within : k < length c.args.bytes.now = search rules in
+    (up_to_sample c.args.self.now c.in-Framing.clock (k + 1 - 1) c.in-Framing.samples c.args.bytes.now c.in-Framing.is (omega arith) (omega (arith, within))).quiet
 
 pub returns-in-Some-last-clause-state : goal.returns-in-Some-last-clause-state
 returns-in-Some-last-clause-state c =

@@ -1,5 +1,5 @@
 -- A clock of a frame that ends it, drops it, or leaves samples to come.
-use Rattle.std.proofs.Common.{◌≡◌, ◌≢◌, ℕ, ◌+◌, ◌<◌, ◌≤◌, ◌⊎◌, length, inl, inr, sym, ap, ◌∙◌, arith}
+use Rattle.std.proofs.Common.{◌≡◌, ◌≢◌, ℕ, ◌+◌, ◌<◌, ◌≤◌, ◌⊎◌, length, inl, inr, sym, ◌∙◌, arith}
 use Rattle.line.specs.declared.level.Level.{Level}
 use Rattle.ends.specs.declared.timing.Timing.{Timing}
 use Rattle.ends.specs.declared.samples.Samples.{Samples}
@@ -39,18 +39,6 @@ returns-then-self-sample_count c =
       unended = λ e. cc;
     }
 
-pub returns-then-is_false_start : goal.returns-then-is_false_start
-returns-then-is_false_start c =
-    let t = c.args.timing.now in
-    let s = c.args.self.now in
-    let u = c.take_down.new.self in
-    let more : (u.count ≤ s.count) ⊎ (u.count ≢ samples_per_frame t.format) = elim c.else-take_down.branch [
-      | else-take_down-via-then-take_down+else-self-sample_count w ↦ inr (λ e. w.if-self-sample_count.false (e ∙ sym w.sample_count.ensures))
-      | else-take_down-via-else-take_down w ↦ inl (omega (arith, c.take_down.ensures.none w.if-take_down.false))
-    ] in
-    let x = unended t s u c.args.clock c.args.level c.requires.in_step c.requires.unended c.take_down.ensures.taken more in
-    record { taken = c.take_down.ensures.taken; heard = ap nothing (c.if-is_false_start.ensures c.args.clock) ∙ x.goes_on; in_step = x.step; unended = λ e. x.few }
-
 pub returns : goal.returns
 returns c =
     let t = c.args.timing.now in
@@ -61,4 +49,4 @@ returns c =
       | else-take_down-via-else-take_down w ↦ inl (omega (arith, c.take_down.ensures.none w.if-take_down.false))
     ] in
     let x = unended t s u c.args.clock c.args.level c.requires.in_step c.requires.unended c.take_down.ensures.taken more in
-    record { taken = c.take_down.ensures.taken; heard = ap nothing (c.if-is_false_start.ensures c.args.clock) ∙ x.goes_on; in_step = x.step; unended = λ e. x.few }
+    record { taken = c.take_down.ensures.taken; heard = c.progress.ensures c.args.clock ∙ x.goes_on; in_step = x.step; unended = λ e. x.few }
