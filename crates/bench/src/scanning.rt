@@ -46,7 +46,7 @@ fn print_entry(rt: &impl Print, style: FoundStyle, (character, bits): (u16, u8))
     }
 }
 
-// Says what is wrong with a capture, and where it stands.
+// Says what is wrong with a capture, and where it stands. No Display of `Fault`: a reader's error goes on as it is, and only the others are texts.
 fn complaint(fault: Fault) -> anyhow::Error {
     match fault {
         Fault::Unread(error) => error.into(),

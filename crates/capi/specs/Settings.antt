@@ -30,7 +30,7 @@ abbrev pub answer_number : {A : Type 0} → Result A Refusal → ℕ
 answer_number (Ok x) = 0
 answer_number (Err e) = number_of e
 
--- the list stands first, as long as the answer says, and nothing else is written
+-- the list stands first, as long as the answer says, and the rest is kept; a refusal writes nothing
 abbrev pub Filled : {A : Type 0} → Result ℕ Refusal → List A → List A → List A → Type 0
 Filled r list new old = MatchResult r (λ n. new ≡ list ++ drop n old) (λ _. new ≡ old)
 

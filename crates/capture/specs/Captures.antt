@@ -41,6 +41,13 @@ pub record HasRead (old new : Option (List ℕ)) (n : ℕ) : Type 0 where
   pub levels_only : position (nat_lt 1) bytes ≡ None
   pub counted : n ≡ min (length bytes) (2 ^ 64 - 1)
 
+-- after so many bytes, each of them a level, a fault in what was read next
+pub record IsFaultAfter (old : Option (List ℕ)) (buffer : List ℕ) (f : Fault) : Type 0 where
+  pub new : Option (List ℕ)
+  pub before : ℕ
+  pub read : HasRead old new before
+  pub fault : IsFaultIn before buffer f
+
 -- what the bytes that were to come give is what was listed, and then what the bytes that are still to come give
 abbrev pub Continues : Option (List ℕ) → Option (List ℕ) → ReceiverState → ReceiverState → List Entry → Type 0
 Continues None new r s es = ⊤

@@ -2,7 +2,7 @@
 ghost use Rattle.std.specs.Prelude.{◌≡◌, ◌+◌, ◌-◌, ◌^◌, ◌<◌, ◌≤◌, min, length, take, nat_lt, position, IfOk, IfErr, MatchResult};
 ghost use Rattle.std.specs.Io.KnownBytes.{IsAtEnd};
 ghost use Rattle.ends.specs.BareReceiver.{meant, at_rest};
-ghost use Rattle.capture.specs.Captures.{GivesLevels, HasRead, IsFaultIn, IsPieceFault, Continues};
+ghost use Rattle.capture.specs.Captures.{GivesLevels, HasRead, IsFaultIn, IsFaultAfter, IsPieceFault, Continues};
 
 use ends::Timing;
 use line::Refusal;
@@ -21,7 +21,7 @@ pub enum Fault {
 }
 
 // How many bytes a piece has, and how many entries arrive with it.
-#[derive(Clone, Copy)]
+#[derive(Clone, Copy, PartialEq, Eq, Debug)]
 pub struct Piece {
     pub bytes: usize,
     pub entries: usize,
@@ -34,7 +34,8 @@ fn first_other(piece: &[u8]) -> Option<usize>
     piece.iter().position(|byte| *byte > 1)
 }
 
-// Reads the next levels of a capture of which so many bytes came before: as many as the buffer takes or fewer, and none at its end.
+// Reads the next levels of a capture of which so many bytes came before: as many as the buffer takes or fewer, and none at its end. The reader
+// and the buffer are lent at each call, and stand in no struct: between two calls the program reads what the buffer holds.
 pub fn next_levels<I: Read>(input: &mut I, buffer: &mut [u8], before: u64) -> Result<usize, Fault>
     ensures read { MatchResult result (λ n. GivesLevels (I.remaining input.old) (I.remaining input.new) (length buffer.new) n (take n buffer.new)) (IsFaultIn before buffer.new) }
 {
@@ -48,6 +49,7 @@ pub fn next_levels<I: Read>(input: &mut I, buffer: &mut [u8], before: u64) -> Re
 // Reads a capture to its end, and lists nothing; answers how many bytes it has, and 2 ^ 64 - 1 for any more.
 pub fn look_through<I: Read>(input: &mut I, buffer: &mut [u8]) -> Result<u64, Fault>
     ensures read { IfOk result (HasRead (I.remaining input.old) (I.remaining input.new)) }
+    ensures fault { IfErr result (IsFaultAfter (I.remaining input.old) buffer.new) }
     ensures end { IfOk result (λ n. 0 < length buffer.old → n < 2 ^ 64 - 1 → IsAtEnd (I.remaining input.new)) }
 {
     let mut before = 0u64;

@@ -103,7 +103,8 @@ impl Mode {
         self.character(false, value) as u8
     }
 
-    // The character that a byte becomes, an address where `wake` is set and characters have an address bit.
+    // The character that a byte becomes, an address where `wake` is set and characters have an address bit: no From, since the wake bit and the mode
+    // go in too.
     pub(crate) fn character(self, wake: bool, value: u8) -> u16
         ensures { result ≡ character_of self wake value }
     {

@@ -11,7 +11,7 @@ use line::Level;
 
 impl BareReceiver {
     // Hears the levels that the first bytes stand for, up to the next at which something may happen, and answers how many these are.
-    // Between two samples of a frame, and while an idle line stays as it is, no level is looked at by itself.
+    // Between two samples of a frame no level is looked at; while an idle line stays as it is, levels are only compared.
     #[inline(always)]
     pub fn hear_some(&mut self, bytes: &[u8]) -> usize
         ensures within { result ≤ length bytes.now }
@@ -30,7 +30,7 @@ impl BareReceiver {
                         before as usize + 1
                     }
                     None => {
-                        // fewer than those that come before the sample, so their number fits
+                        // no more than come before the sample, so their number fits
                         *clock += bytes.len() as u32;
                         if let Some(byte) = bytes.last() {
                             self.previous = level_of(*byte);
@@ -43,7 +43,8 @@ impl BareReceiver {
         }
     }
 
-    // The same outside a frame. Out of line: it is rare beside the samples, whose loop is short without it.
+    // The same outside a frame. Out of line: it is rare beside the samples, whose loop is short without it. The clauses are the same, since a
+    // word for them would take the states before and after, the bytes and the answer, and be opened in each proof.
     #[inline(never)]
     fn hear_outside(&mut self, bytes: &[u8]) -> usize
         ensures within { result ≤ length bytes.now }
@@ -74,7 +75,8 @@ impl BareReceiver {
     }
 }
 
-// How many of the first bytes are this one.
+// How many of the first bytes are this one. The crate of pictures has one that compares with the first byte, and says that the run ends
+// where it does: of this one it would have to ask for that byte first.
 fn run_length(bytes: &[u8], byte: u8) -> usize
     ensures within { result ≤ length bytes.now }
     ensures equal { (k : ℕ) → k < result → slice_index bytes.now k ≡ byte }

@@ -21,8 +21,8 @@ impl<S: Sender, R: Receiver> Pair<'_, S, R> {
     ghost use Rattle.ends.specs.Times.{start_of};
     ghost use Rattle.link.specs.Judging.{bit_judged, judged};
 
-    // The bits from the start bit through the first stop bit, one after the other. No `0..=`: tried, and what was left is that
-    // the fold may be called; its lemmas are of a `Range`, and this one also has a mark that it is spent.
+    // The bits from the start bit through the first stop bit, one after the other. No `0..=`: tried, and that the fold may be called was left to
+    // prove, since its lemmas speak of a `Range`.
     pub(crate) fn judge(&self) -> Verdict
         ensures { result ≡ judged (S.Sender.meaning self.now.sender.now) (R.Receiver.meaning self.now.receiver.now) self.now.rates.send self.now.rates.receive 0 (1 + first_stop (R.Receiver.meaning self.now.receiver.now).format) }
     {

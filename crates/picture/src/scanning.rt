@@ -71,8 +71,8 @@ impl Scanner {
         (heard, self.receiver.read().ok())
     }
 
-    // How many entries arrive. Counted by hand: a step passes over several bytes, so a chain would need an iterator of our own, which is a struct
-    // more, and has this loop in its `next`.
+    // How many entries arrive. Counted by hand: a step passes over several bytes, so a chain would need an iterator of our own with this loop in
+    // its `next`, for this one function, since `list` writes by place and keeps its loop.
     fn count(mut self, piece: &[u8]) -> usize
         ensures { result ≡ length (taken_down (meant self.receiver) (levels piece.now)) }
     {
@@ -106,8 +106,8 @@ impl Scanner {
     }
 }
 
-// Whether some byte is neither 0 nor 1. There is no way out before the end, so that the compiler can take many bytes at once: measured with
-// `any`, a scan takes a fifth longer.
+// Whether some byte is neither 0 nor 1. There is no way out before the end, so that the compiler can take many bytes at once: with `any`
+// a scan took a fifth longer when it clocked every byte, and would lose more now.
 fn has_other(picture: &[u8]) -> bool
     ensures { result ≡ any_other picture.now }
 {

@@ -110,6 +110,7 @@ impl<'a> Words<'a> {
                 Piece::Known(word, None) => return Err(Wrong::NoValue(word)),
                 Piece::Other(word) if word.starts_with("--") => return Err(Wrong::Unknown(word)),
                 Piece::Other(word) if left == 0 => return Err(Wrong::TooMany(word)),
+                // counted down here, since an earlier fault ends the loop
                 Piece::Other(_) => left -= 1,
             }
         }
@@ -133,8 +134,8 @@ impl<'a> Words<'a> {
     }
 
     // The word with this number, from 0, among those that are neither options nor their values.
-    // Counted by hand: tried as `filter_map(..).nth(at)`, where `returns` was left, of which the two adapters tell only by the runs of
-    // the iterator below them.
+    // Counted by hand: tried as `filter_map(..).nth(at)`, where `returns` was left to prove: what the adapters give is said by runs of the
+    // iterator below them.
     #[tactic(auto, unfolding(crate::specs::Options::other_word))]
     pub fn other(&self, at: usize) -> Option<&'a str>
         ensures { option_now result ≡ other_word self.now.takes.options.now at None (texts self.now.words.now) }

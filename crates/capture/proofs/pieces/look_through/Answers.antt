@@ -1,6 +1,5 @@
 -- Each piece joins what was read before it.
-use Rattle.std.proofs.Common.{rules, ◌≡◌, arith, length, take}
-use Rattle.capture.specs.Captures.{HasRead, GivesLevels}
+use Rattle.std.proofs.Common.{rules, arith}
 use Rattle.capture.proofs.Reading.{nothing_read, read_on, count_fits}
 use Rattle.capture.proofs.pieces.look_through.Goals as goal
 
