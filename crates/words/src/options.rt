@@ -117,7 +117,8 @@ impl<'a> Words<'a> {
         Ok(Words { takes, words })
     }
 
-    // The value of an option, if it was given. Of several given alike the last counts.
+    // The value of an option, if it was given. Of several given alike the last counts. A loop: tried as `filter_map(..).last()`, with the same left as
+    // in `other`.
     #[tactic(auto, unfolding(crate::specs::Options::option_value))]
     pub fn option(&self, name: &str) -> Option<&'a str>
         ensures { option_now result ≡ option_value self.now.takes.options.now name.now None None (texts self.now.words.now) }
