@@ -14,25 +14,26 @@ pub record GivesLevels (old new : Option (List ℕ)) (room n : ℕ) (piece : Lis
   pub read : Consumes old new piece
   pub ends : n ≡ 0 → 0 < room → IsAtEnd new
 
--- the byte with this number is the first of those read that is no level, where so many came before
-pub record IsOtherAt (before place : ℕ) (buffer : List ℕ) : Type 0 where
+-- of the bytes that were read the one with this number is the first that is no level, where so many came before
+pub record IsOtherAt (old new : Option (List ℕ)) (before place : ℕ) (buffer : List ℕ) : Type 0 where
   pub count : ℕ
   pub at : ℕ
   pub within : count ≤ length buffer
+  pub read : Consumes old new (take count buffer)
   pub first : position (nat_lt 1) (take count buffer) ≡ Some at
   pub named : place ≡ min (before + at) (2 ^ 64 - 1)
 
--- a read that failed is the reader's affair
-abbrev pub IsFaultIn : ℕ → List ℕ → Fault → Type 0
-IsFaultIn before buffer (Unread e) = ⊤
-IsFaultIn before buffer (NotALevel place) = IsOtherAt before place buffer
-IsFaultIn before buffer TooShort = ⊥
+-- a read that failed is the reader's affair; whether the list can be too short, and when, the last but one says
+abbrev pub IsFaultIn : Option (List ℕ) → Option (List ℕ) → ℕ → List ℕ → Type 0 → Fault → Type 0
+IsFaultIn old new before buffer short (Unread e) = ⊤
+IsFaultIn old new before buffer short (NotALevel place) = IsOtherAt old new before place buffer
+IsFaultIn old new before buffer short TooShort = short
 
--- a scan can also find more entries than there is room for
-abbrev pub IsPieceFault : ℕ → List ℕ → Fault → Type 0
-IsPieceFault before buffer (Unread e) = ⊤
-IsPieceFault before buffer (NotALevel place) = IsOtherAt before place buffer
-IsPieceFault before buffer TooShort = ⊤
+-- a piece was read, and more entries arrive with it than the list has places
+pub record HasTooMany (old new : Option (List ℕ)) (r : ReceiverState) (places : ℕ) (buffer : List ℕ) : Type 0 where
+  pub count : ℕ
+  pub read : GivesLevels old new (length buffer) count (take count buffer)
+  pub more : places < length (taken_down r (levels (take count buffer)))
 
 -- so many bytes were read, one after the other, each of them a level
 pub record HasRead (old new : Option (List ℕ)) (n : ℕ) : Type 0 where
@@ -42,11 +43,11 @@ pub record HasRead (old new : Option (List ℕ)) (n : ℕ) : Type 0 where
   pub counted : n ≡ min (length bytes) (2 ^ 64 - 1)
 
 -- after so many bytes, each of them a level, a fault in what was read next
-pub record IsFaultAfter (old : Option (List ℕ)) (buffer : List ℕ) (f : Fault) : Type 0 where
-  pub new : Option (List ℕ)
+pub record IsFaultAfter (old new : Option (List ℕ)) (buffer : List ℕ) (f : Fault) : Type 0 where
+  pub mid : Option (List ℕ)
   pub before : ℕ
-  pub read : HasRead old new before
-  pub fault : IsFaultIn before buffer f
+  pub read : HasRead old mid before
+  pub fault : IsFaultIn mid new before buffer ⊥ f
 
 -- what the bytes that were to come give is what was listed, and then what the bytes that are still to come give
 abbrev pub Continues : Option (List ℕ) → Option (List ℕ) → ReceiverState → ReceiverState → List Entry → Type 0

@@ -1,8 +1,10 @@
 // The pieces of a capture, one after the other, from any reader.
-ghost use Rattle.std.specs.Prelude.{◌≡◌, ◌+◌, ◌-◌, ◌^◌, ◌<◌, ◌≤◌, min, length, take, nat_lt, position, IfOk, IfErr, MatchResult};
+ghost use Rattle.std.specs.Prelude.{◌≡◌, ◌+◌, ◌-◌, ◌^◌, ◌<◌, ◌++◌, min, length, take, drop, nat_lt, position, IfOk, IfErr, MatchResult};
 ghost use Rattle.std.specs.Io.KnownBytes.{IsAtEnd};
 ghost use Rattle.ends.specs.BareReceiver.{meant, at_rest};
-ghost use Rattle.capture.specs.Captures.{GivesLevels, HasRead, IsFaultIn, IsFaultAfter, IsPieceFault, Continues};
+ghost use Rattle.ends.specs.Runs.{taken_down};
+ghost use Rattle.picture.specs.Scanning.{levels, after_listed};
+ghost use Rattle.capture.specs.Captures.{GivesLevels, HasRead, IsFaultIn, IsFaultAfter, HasTooMany, Continues};
 
 use ends::Timing;
 use line::Refusal;
@@ -37,7 +39,7 @@ fn first_other(piece: &[u8]) -> Option<usize>
 // Reads the next levels of a capture of which so many bytes came before: as many as the buffer takes or fewer, and none at its end. The reader
 // and the buffer are lent at each call, and stand in no struct: between two calls the program reads what the buffer holds.
 pub fn next_levels<I: Read>(input: &mut I, buffer: &mut [u8], before: u64) -> Result<usize, Fault>
-    ensures read { MatchResult result (λ n. GivesLevels (I.remaining input.old) (I.remaining input.new) (length buffer.new) n (take n buffer.new)) (IsFaultIn before buffer.new) }
+    ensures read { MatchResult result (λ n. GivesLevels (I.remaining input.old) (I.remaining input.new) (length buffer.new) n (take n buffer.new)) (IsFaultIn (I.remaining input.old) (I.remaining input.new) before buffer.new ⊥) }
 {
     let count = input.read(buffer).map_err(Fault::Unread)?;
     match first_other(&buffer[..count]) {
@@ -49,7 +51,7 @@ pub fn next_levels<I: Read>(input: &mut I, buffer: &mut [u8], before: u64) -> Re
 // Reads a capture to its end, and lists nothing; answers how many bytes it has, and 2 ^ 64 - 1 for any more.
 pub fn look_through<I: Read>(input: &mut I, buffer: &mut [u8]) -> Result<u64, Fault>
     ensures read { IfOk result (HasRead (I.remaining input.old) (I.remaining input.new)) }
-    ensures fault { IfErr result (IsFaultAfter (I.remaining input.old) buffer.new) }
+    ensures fault { IfErr result (IsFaultAfter (I.remaining input.old) (I.remaining input.new) buffer.new) }
     ensures end { IfOk result (λ n. 0 < length buffer.old → n < 2 ^ 64 - 1 → IsAtEnd (I.remaining input.new)) }
 {
     let mut before = 0u64;
@@ -99,15 +101,17 @@ impl Pieces {
     ) -> Result<Piece, Fault>
         ensures goes_on { IfOk result (λ piece. Continues (I.remaining input.old) (I.remaining input.new) (meant self.old.scanner.receiver) (meant self.new.scanner.receiver) (take piece.entries entries.new)) }
         ensures read { IfOk result (λ piece. GivesLevels (I.remaining input.old) (I.remaining input.new) (length buffer.new) piece.bytes (take piece.bytes buffer.new)) }
-        ensures counted { IfOk result (λ piece. self.new.before ≡ min (self.old.before + piece.bytes) (2 ^ 64 - 1)) }
-        ensures fault { IfErr result (IsPieceFault self.old.before buffer.new) }
-        ensures fits { IfOk result (λ piece. piece.entries ≤ length entries.new) }
+        ensures fault { IfErr result (IsFaultIn (I.remaining input.old) (I.remaining input.new) self.old.before buffer.new (HasTooMany (I.remaining input.old) (I.remaining input.new) (meant self.old.scanner.receiver) (length entries.old) buffer.new)) }
+        ensures found { IfOk result (λ piece. piece.entries ≡ length (taken_down (meant self.old.scanner.receiver) (levels (take piece.bytes buffer.new)))) }
+        ensures entries { MatchResult result (λ piece. entries.new ≡ taken_down (meant self.old.scanner.receiver) (levels (take piece.bytes buffer.new)) ++ drop piece.entries entries.old) (λ _. entries.new ≡ entries.old) }
+        ensures scanner { MatchResult result (λ piece. meant self.new.scanner.receiver ≡ after_listed (meant self.old.scanner.receiver) (levels (take piece.bytes buffer.new))) (λ _. meant self.new.scanner.receiver ≡ meant self.old.scanner.receiver) }
+        ensures counted { MatchResult result (λ piece. self.new.before ≡ min (self.old.before + piece.bytes) (2 ^ 64 - 1)) (λ _. self.new.before ≡ self.old.before) }
     {
         let bytes = next_levels(input, buffer, self.before)?;
-        let found = self
-            .scanner
-            .scan(&buffer[..bytes], entries)
-            .map_err(|_| Fault::TooShort)?;
+        // each byte is a level, so there is nothing else to refuse
+        let Ok(found) = self.scanner.scan(&buffer[..bytes], entries) else {
+            return Err(Fault::TooShort);
+        };
         self.before = self.before.saturating_add(bytes as u64);
         Ok(Piece {
             bytes,
