@@ -23,7 +23,8 @@ pub record IsOtherAt (old new : Option (List ℕ)) (before place : ℕ) (buffer 
   pub first : position (nat_lt 1) (take count buffer) ≡ Some at
   pub named : place ≡ min (before + at) (2 ^ 64 - 1)
 
--- a read that failed is the reader's affair; whether the list can be too short, and when, the last but one says
+-- what a fault says, where so many bytes came before: of a read that failed nothing, which is the reader's affair; that the list is too short
+-- only where `short` holds
 abbrev pub IsFaultIn : Option (List ℕ) → Option (List ℕ) → ℕ → List ℕ → Type 0 → Fault → Type 0
 IsFaultIn old new before buffer short (Unread e) = ⊤
 IsFaultIn old new before buffer short (NotALevel place) = IsOtherAt old new before place buffer
