@@ -5,7 +5,6 @@ use anyhow::bail;
 use line::Refusal;
 use link::{MOST_RATE, Verdict};
 use sheet::{Clocked, Off, Way};
-use std::alloc::Global;
 use std::io;
 use words::Takes;
 
@@ -32,14 +31,14 @@ fn print_range(rt: &impl Print, whose: &str, way: Way, off: Off) -> io::Result<(
 }
 
 // The way that the words name.
-fn way_named(alloc: Global, words: &Given) -> anyhow::Result<Way> {
+fn way_named(words: &Given) -> anyhow::Result<Way> {
     let format = words.format()?;
     let from = Clocked {
-        timing: end_named(alloc, format, words.needed(0, "sender")?)?,
+        timing: end_named(format, words.needed(0, "sender")?)?,
         hertz: number(words.needed(1, "sender's rate")?, "sender's rate")?,
     };
     let to = Clocked {
-        timing: end_named(alloc, format, words.needed(2, "receiver")?)?,
+        timing: end_named(format, words.needed(2, "receiver")?)?,
         hertz: number(words.needed(3, "receiver's rate")?, "receiver's rate")?,
     };
     Ok(Way { from, to })
@@ -64,8 +63,8 @@ fn print_verdict(rt: &impl Print, way: Way) -> anyhow::Result<()> {
     Ok(())
 }
 
-pub(crate) fn command(rt: &(impl Print + AllocGlobal), words: &[String]) -> anyhow::Result<()> {
+pub(crate) fn command(rt: &impl Print, words: &[String]) -> anyhow::Result<()> {
     let words = Given::new("fit", TAKES, words)?;
-    let way = way_named(rt.alloc(), &words)?;
+    let way = way_named(&words)?;
     print_verdict(rt, way)
 }

@@ -5,18 +5,20 @@ use ends::Timing;
 use line::Format;
 use lock::{DIVIDER, MODULATOR};
 use shows::{port_timing, usart_timing};
-use std::alloc::Global;
 
 // An end by name: usart:DIVIDER:MODULATOR or port:DIVIDER.
-pub(crate) fn end_named(alloc: Global, format: Format, name: &str) -> anyhow::Result<Timing> {
-    let parts: Vec<&str> = name.split(':').collect(alloc)?;
-    match parts.as_slice() {
-        ["usart", divider, modulator] => usart_timing(
+pub(crate) fn end_named(format: Format, name: &str) -> anyhow::Result<Timing> {
+    // Four parts, one more than an end has, so that a longer name is no end. In no `Vec`: a name may have any number of parts.
+    let mut parts = name.split(':');
+    match [parts.next(), parts.next(), parts.next(), parts.next()] {
+        [Some("usart"), Some(divider), Some(modulator), None] => usart_timing(
             format,
             number(divider, "divider")?,
             number(modulator, "modulator")?,
         ),
-        ["port", divider] => port_timing(format, number(divider, "divider")?),
+        [Some("port"), Some(divider), None, None] => {
+            port_timing(format, number(divider, "divider")?)
+        }
         _ => bail!("'{name}' is no end; usart:6:6Fh and port:24 are some"),
     }
 }

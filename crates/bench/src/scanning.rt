@@ -89,13 +89,13 @@ fn print_pieces<I: Read>(
     Ok(())
 }
 
+// Answers how many bytes the capture has.
 fn scan_capture<I: Read>(
     rt: &(impl Print + Eprint + AllocGlobal),
     timing: &Timing,
     style: FoundStyle,
     input: &mut I,
-    name: &str,
-) -> anyhow::Result<()> {
+) -> anyhow::Result<u64> {
     let mut buffer = vec![in rt.alloc(); 0; PIECE]?;
     let mut entries = vec![in rt.alloc(); (0, 0); PIECE]?;
     let mut pieces = Pieces::new(timing);
@@ -107,11 +107,11 @@ fn scan_capture<I: Read>(
         buffer.as_mut_slice(),
         entries.as_mut_slice(),
     )?;
-    ensure!(pieces.before() > 0, "{name} is empty");
-    if style == FoundStyle::Text {
+    let bytes = pieces.before();
+    if style == FoundStyle::Text && bytes > 0 {
         println!(rt; "")?;
     }
-    Ok(())
+    Ok(bytes)
 }
 
 fn scan_file(
@@ -122,12 +122,15 @@ fn scan_file(
 ) -> anyhow::Result<()> {
     let mut first = File::open(rt, path).context(format_args!("cannot open the file '{path}'"))?;
     // the whole capture is looked through before anything is written
-    let mut buffer = vec![in rt.alloc(); 0; PIECE]?;
-    let name = format!(in rt.alloc(); "the file '{path}'")?;
-    let bytes = look_through(&mut first, buffer.as_mut_slice()).map_err(complaint)?;
+    let bytes = {
+        let mut buffer = vec![in rt.alloc(); 0; PIECE]?;
+        look_through(&mut first, buffer.as_mut_slice()).map_err(complaint)?
+    };
     ensure!(bytes > 0, "empty capture '{path}'");
     let mut file = File::open(rt, path).context(format_args!("cannot reopen the file '{path}'"))?;
-    scan_capture(rt, timing, style, &mut file, name.as_str())
+    // where nothing comes the second time, as from a pipe, nothing is written and nothing is wrong
+    scan_capture(rt, timing, style, &mut file)?;
+    Ok(())
 }
 
 pub(crate) fn command(
@@ -140,11 +143,7 @@ pub(crate) fn command(
     if let Some(name) = words.other(0) {
         return scan_file(rt, &timing, style, name);
     }
-    scan_capture(
-        rt,
-        &timing,
-        style,
-        &mut rt.reader(),
-        "the capture on standard input",
-    )
+    let bytes = scan_capture(rt, &timing, style, &mut rt.reader())?;
+    ensure!(bytes > 0, "the capture on standard input is empty");
+    Ok(())
 }
