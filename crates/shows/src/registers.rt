@@ -27,7 +27,8 @@ pub struct Register {
 impl Register {
     fn name(self) -> &'static str {
         match self.address {
-            UCTL => "UCTL",
+            // below the first register too, where there is none
+            ..=UCTL => "UCTL",
             UTCTL => "UTCTL",
             URCTL => "URCTL",
             UMCTL => "UMCTL",
