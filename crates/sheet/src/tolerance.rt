@@ -3,7 +3,8 @@ ghost use Rattle.std.specs.Prelude.{◌≡◌, ◌+◌, ◌-◌, ◌<◌, ◌≤
 ghost use Rattle.sheet.specs.Tolerance.{own_rate};
 
 use ends::{Receiver, Sender};
-use link::{MOST_RATE, Rates, Verdict, fit};
+pub use link::Rates;
+use link::{MOST_RATE, Verdict, fit};
 
 // The end whose clock is off.
 #[derive(Clone, Copy, PartialEq, Eq, Debug)]
