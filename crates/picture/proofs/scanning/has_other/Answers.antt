@@ -1,22 +1,24 @@
--- The largest byte is above 1 where some byte is.
-use Rattle.std.proofs.Common.{◌≡◌, ℕ, max, Bool, false, ◌||◌, nat_lt, List, [], ◌∷◌, fold, sym, ◌∙◌, MatchOption, arith, rules}
-use Rattle.std.specs.List.{list_any, reduce}
-use Rattle.std.proofs.lemmas.Bool.Decides.{nat_tests}
-use Rattle.std.proofs.lemmas.Iterator.{YieldsList-from_slice}
-use Rattle.std.proofs.lemmas.Iterator.Adapters.{option_map_id}
-use Rattle.std.proofs.lemmas.Iterator.Consumers.{YieldsList-from_copied, max_from_yields_List}
+-- Part for part.
+use Rattle.std.proofs.Common.{◌≡◌, ℕ, Bool, ◌||◌, nat_lt, List, ◌++◌, sym, ap, ◌∙◌}
+use Rattle.std.specs.List.{list_any}
+use Rattle.std.specs.Slice.Iter.{chunks_rest}
+use Rattle.std.proofs.lemmas.List.{nil_from_length}
+use Rattle.std.proofs.lemmas.List.Folds.{list_any-append}
+use Rattle.picture.specs.Scanning.{any_other}
 use Rattle.picture.proofs.scanning.has_other.Goals as goal
 
-largest_above : (m : ℕ) (bs : List ℕ) → nat_lt 1 (fold max m bs) ≡ (nat_lt 1 m || list_any (nat_lt 1) bs)
-largest_above m [] = grind (arith, nat_tests)
-largest_above m (b ∷ bs) = largest_above (max m b) bs ∙ grind (arith, nat_tests)
+-- r is what the part answers
+part_first : (r : Bool) (all part rest : List ℕ) → all ≡ part ++ rest → r ≡ any_other part → (r || any_other rest) ≡ any_other all
+part_first r all part rest parts h =
+    ap (λ (b : Bool). b || any_other rest) h ∙ sym (list_any-append (nat_lt 1) part rest) ∙ ap (list_any (nat_lt 1)) (sym parts)
 
-some_above : (bs : List ℕ) (r : Bool) → MatchOption (reduce max bs) (r ≡ false) (λ m. r ≡ nat_lt 1 m) → r ≡ list_any (nat_lt 1) bs
-some_above [] r h = h
-some_above (b ∷ bs) r h = h ∙ largest_above b bs
+pub returns-then-has_other_in : goal.returns-then-has_other_in
+returns-then-has_other_in c =
+    part_first _ _ c.in-Some.part.now (chunks_rest c.next.new.self) c.in-Some.ensures.steps.1.0 c.if-has_other_in.ensures ∙ c.loop-part.invariant
+
+pub loop-part-preserved : goal.loop-part-preserved
+loop-part-preserved c =
+    part_first _ _ c.in-Some.part.now (chunks_rest c.next.new.self) c.in-Some.ensures.steps.1.0 c.if-has_other_in.ensures ∙ c.loop-part.invariant
 
 pub returns : goal.returns
-returns c =
-    let most : c.max.result ≡ reduce max c.args.picture.now =
-    sym (option_map_id _) ∙ max_from_yields_List _ _ c.max.ensures.ran (YieldsList-from_copied (YieldsList-from_slice c.args.picture.now cc)) in
-    some_above c.args.picture.now _ (rw (← most) (search rules))
+returns c = ap (list_any (nat_lt 1)) (sym (nil_from_length _ c.in-None.ensures.steps.1.0)) ∙ c.loop-part.invariant
