@@ -1,5 +1,5 @@
 -- One act more of a run, by plain numbers.
-use Rattle.std.proofs.Common.{◌≡◌, ℕ, zero, suc, ◌+◌, ◌<◌, ◌≤◌, List, [], ◌∷◌, ◌++◌, map, length, get_or, take, drop, set, IfOk, Ok, Err, Result, sym, refl, ap, ◌∙◌, arith}
+use Rattle.std.proofs.Common.{◌≡◌, ℕ, suc, ◌+◌, ◌<◌, ◌≤◌, List, [], ◌∷◌, ◌++◌, map, length, get_or, take, drop, set, IfOk, Ok, Err, Result, sym, refl, ap, ◌∙◌, arith}
 use Rattle.std.proofs.lemmas.List.{append_assoc, take_more, drop_more, length-take-le, set_at}
 use Rattle.link.specs.Link.{LinkState, after_act, after}
 use Rattle.line.specs.declared.refusal.Refusal.{Refusal}
@@ -9,20 +9,8 @@ use Rattle.link.specs.Delivery.{Delivers}
 use Rattle.link.proofs.Run.{delivery}
 use Rattle.capi.specs.declared.numbers.ActNumbers.{ActNumbers}
 use Rattle.capi.specs.declared.numbers.AnswerNumbers.{AnswerNumbers}
-use Rattle.capi.specs.Translating.{act_check, act_of, acts_check, told_answer}
-use Rattle.capi.specs.Settings.{and_then}
+use Rattle.capi.specs.Translating.{act_of, told_answer}
 use Rattle.capi.specs.Running.{told_answers}
-
--- an act that is not declined is what its numbers mean
-told_passed : (r : Result Unit Refusal) (x : Act) (rest : Result Unit Refusal) → and_then (and_then r (λ _. Ok x)) (λ _. rest) ≡ Ok tt → (r ≡ Ok tt) × (rest ≡ Ok tt)
-told_passed (Ok tt) x rest h = (refl, h)
-told_passed (Err e) x rest h = absurd cc
-
--- where none is declined, this one is not
-pub passed : (acts : List ActNumbers) (i : ℕ) (d : ActNumbers) → acts_check acts ≡ Ok tt → i < length acts → act_check (get_or acts i d) ≡ Ok tt
-passed [] i d h l = absurd (omega arith)
-passed (a ∷ xs) zero d h l = (told_passed (act_check a) (act_of a) (acts_check xs) h).0
-passed (a ∷ xs) (suc i) d h l = passed xs i d (told_passed (act_check a) (act_of a) (acts_check xs) h).1 (omega arith)
 
 -- the link after these acts
 abbrev pub done : LinkState → List ActNumbers → LinkState

@@ -16,7 +16,7 @@ use super::telling::answer_number;
 use super::translating::check_all;
 use ends::{BareReceiver, BareSender, Receiver, Sender};
 use line::Refusal;
-use link::{Act, Link};
+use link::Link;
 use queue::{ReceiveQueue, SendQueue};
 
 // Joins two ends and does the acts one after the other; writes down what each answers.
@@ -95,8 +95,7 @@ fn do_all<S: Sender, R: Receiver>(
     acts: &[ActNumbers],
     answers: &mut [AnswerNumbers],
 )
-    requires room { length acts.now ≤ length answers.old }
-    requires checked { acts_check acts.now ≡ Ok tt }
+    requires { length acts.now ≤ length answers.old }
     ensures { answers.new ≡ told_answers (link_of S.Sender.meaning R.Receiver.meaning link.old) acts.now ++ drop (length acts.now) answers.old }
 {
     // by index: of what is written through `answers.iter_mut().zip(acts)` the proof learns the length alone
@@ -106,13 +105,8 @@ fn do_all<S: Sender, R: Receiver>(
 }
 
 fn do_one<S: Sender, R: Receiver>(link: &mut Link<S, R>, act: ActNumbers) -> AnswerNumbers
-    requires { act_check act ≡ Ok tt }
     ensures answer { result ≡ told_answer (answer (link_of S.Sender.meaning R.Receiver.meaning link.old) (act_of act)) }
     ensures state { link_of S.Sender.meaning R.Receiver.meaning link.new ≡ after_act (link_of S.Sender.meaning R.Receiver.meaning link.old) (act_of act) }
 {
-    // by `match`: where a closure of `and_then` does the act, the proof doesn't learn what became of the link
-    match Act::try_from(act) {
-        Ok(act) => AnswerNumbers::from(link.act(act)),
-        Err(refusal) => AnswerNumbers::from(Err(refusal)),
-    }
+    AnswerNumbers::from(link.act(act.act()))
 }

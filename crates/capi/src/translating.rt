@@ -1,6 +1,6 @@
 // Acts and answers of a link to and from plain numbers.
 ghost use Rattle.std.specs.Prelude.{◌≡◌};
-ghost use Rattle.capi.specs.Translating.{act_told, told_answer, acts_check};
+ghost use Rattle.capi.specs.Translating.{act_of, act_told, told_answer, acts_check};
 
 use super::numbers::{ActNumbers, AnswerNumbers};
 use line::{Level, Refusal};
@@ -25,13 +25,24 @@ impl TryFrom<ActNumbers> for Act {
 
     fn try_from(numbers: ActNumbers) -> Result<Act, Refusal> {
         match numbers.kind {
-            LOAD => Ok(Act::Load(numbers.value)),
-            SEND => Ok(Act::Send),
-            RECEIVE => Ok(Act::Receive),
             NOISE if numbers.value > 1 => Err(Refusal::NotALevel),
-            NOISE => Ok(Act::Noise(Level::from_digit(numbers.value))),
-            READ => Ok(Act::Read),
+            LOAD..=READ => Ok(numbers.act()),
             _ => Err(Refusal::OutOfRange),
+        }
+    }
+}
+
+impl ActNumbers {
+    // What the numbers mean where they are not declined. A run looks at all acts before it does the first, so it asks none again.
+    pub(crate) fn act(self) -> Act
+        ensures { result ≡ act_of self }
+    {
+        match self.kind {
+            LOAD => Act::Load(self.value),
+            SEND => Act::Send,
+            RECEIVE => Act::Receive,
+            NOISE => Act::Noise(Level::from_digit(self.value)),
+            _ => Act::Read,
         }
     }
 }

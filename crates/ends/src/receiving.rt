@@ -5,7 +5,7 @@ ghost use Rattle.line.specs.declared.level.Level.TheVariants.{Space, Mark};
 ghost use Rattle.line.specs.Levels.{number, low_bits};
 ghost use Rattle.line.specs.Frames.{first_stop};
 ghost use Rattle.ends.specs.Times.{samples_per_frame};
-ghost use Rattle.ends.specs.Receiver.{falling_on, falling_before, majority, decided, entry_of, joined, heard_in_frame, nothing, idle, framing, going_on, taken_now};
+ghost use Rattle.ends.specs.Receiver.{falling_on, falling_before, majority, decided, entry_of, joined, with, heard_in_frame, nothing, idle, framing, going_on, taken_now};
 ghost use Rattle.ends.specs.Samples.{taken};
 ghost use Rattle.ends.specs.BareReceiver.{meant, at_rest, heard_of};
 ghost use Rattle.ends.specs.Timed.{sample_clocks};
@@ -127,8 +127,7 @@ impl Samples {
         }
     }
 
-    // The samples of a frame after its first clock, whose level is space. Out of line: it comes once a frame.
-    #[inline(never)]
+    // The samples of a frame after its first clock, whose level is space.
     fn begin(timing: &Timing) -> Samples
         ensures taken { taken result ≡ taken_now (sample_clocks timing.now) 0 [] Space }
         ensures heard { heard_in_frame timing.now.format 0 (taken result) ≡ nothing (framing 0 (taken result)) }
@@ -204,6 +203,18 @@ impl BareReceiver {
             doing: Doing::Idle,
         }
     }
+
+    // The first clock of a frame, whose level is space. A call: laid out in a clock, the compiler cleared the room for the samples at every
+    // clock.
+    #[inline(never)]
+    fn begin_frame(&mut self)
+        ensures { meant self.new ≡ with (meant self.old) (meant self.old).unread (meant self.old).previous (framing 0 (taken_now (sample_clocks self.old.timing) 0 [] Space)) }
+    {
+        self.doing = Doing::Framing {
+            clock: 0,
+            samples: Samples::begin(&self.timing),
+        };
+    }
 }
 
 impl Receiver for BareReceiver {
@@ -227,12 +238,7 @@ impl Receiver for BareReceiver {
         let timing = &self.timing;
         // a match in place over what it is doing and the two levels, as the rule is stated
         match (&mut self.doing, previous, level) {
-            (Doing::Idle | Doing::Counting { .. }, Level::Mark, Level::Space) => {
-                self.doing = Doing::Framing {
-                    clock: 0,
-                    samples: Samples::begin(timing),
-                };
-            }
+            (Doing::Idle | Doing::Counting { .. }, Level::Mark, Level::Space) => self.begin_frame(),
             (Doing::Idle, _, _) => {}
             (Doing::Framing { clock, samples }, _, _) => {
                 *clock += 1;
@@ -264,6 +270,9 @@ impl Receiver for BareReceiver {
     }
 
     fn read(&mut self) -> Result<(u16, u8), Refusal> {
-        self.unread.take().ok_or(Refusal::NothingUnread)
+        // No `take`: it would clear the place at each read, and most find nothing.
+        let entry = self.unread.ok_or(Refusal::NothingUnread)?;
+        self.unread = None;
+        Ok(entry)
     }
 }

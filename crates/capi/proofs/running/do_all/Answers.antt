@@ -1,10 +1,7 @@
 -- Each act that is not declined is done, and its answer goes into its place.
 use Rattle.std.proofs.Common.{arith}
-use Rattle.capi.proofs.Acts.{passed, state_more, answers_more}
+use Rattle.capi.proofs.Acts.{state_more, answers_more}
 use Rattle.capi.proofs.running.do_all.Goals as goal
-
-pub do_one-requires : goal.do_one-requires
-do_one-requires g c = passed c.args.acts.now c.loop-i.i _ c.requires.checked c.loop-i-test.true
 
 pub loop-i-preserved : goal.loop-i-preserved
 loop-i-preserved g c =
